@@ -1,0 +1,18 @@
+mod CharacterLemmas
+mod Equal
+mod LoneWords
+pub mod Words
+mod Zeros
+pub mod Members
+pub mod Marks
+pub mod Numbering
+pub mod Spaces
+pub mod Sets
+pub mod FreshTexts
+pub mod Extending
+pub mod RuleTexts
+pub mod FreshRules
+pub mod Finding
+pub mod Grouping
+pub mod SpacedForms
+pub mod StandingTexts

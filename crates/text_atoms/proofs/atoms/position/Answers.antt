@@ -1,0 +1,19 @@
+-- What a binary search says.
+use Rattle.std.proofs.Common.{◌≡◌, rules}
+use Rattle.std.specs.Ordering.{nat_cmp}
+use Rattle.std.specs.Cmp.Lexicographic.{slice_cmp}
+use Rattle.std.proofs.lemmas.Fn.{always_returns_same}
+use Rattle.text_atoms.proofs.Finding.{searched_text, option_found}
+use Rattle.text_atoms.proofs.atoms.position.Goals as goal
+
+pub returns-clause-found : goal.returns-clause-found
+returns-clause-found c =
+    (option_found c.binary_search_by.result _ _ _ c.ok.ensures.value
+    (searched_text c.args.atoms.now c.args.text.now c.binary_search_by.result c.requires c.binary_search_by.ensures.bound
+    (c.binary_search_by.ensures.position (λ a. slice_cmp nat_cmp a.0 c.args.text.now) (always_returns_same _ (λ a r. r ≡ slice_cmp nat_cmp a.0.now.0 c.args.text.now) _ (λ a r q k. search rules))))).0
+
+pub returns-clause-absent : goal.returns-clause-absent
+returns-clause-absent c =
+    (option_found c.binary_search_by.result _ _ _ c.ok.ensures.value
+    (searched_text c.args.atoms.now c.args.text.now c.binary_search_by.result c.requires c.binary_search_by.ensures.bound
+    (c.binary_search_by.ensures.position (λ a. slice_cmp nat_cmp a.0 c.args.text.now) (always_returns_same _ (λ a r. r ≡ slice_cmp nat_cmp a.0.now.0 c.args.text.now) _ (λ a r q k. search rules))))).1
