@@ -1,0 +1,3 @@
+pub mod NameOrder
+pub mod Views
+pub mod ClassOrder
