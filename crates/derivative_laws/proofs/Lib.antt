@@ -1,0 +1,14 @@
+pub mod Members
+pub mod Constructed
+pub mod ChoiceLaw
+pub mod TextLaw
+pub mod OpeningLaw
+pub mod AttributeLaw
+pub mod CloseLaw
+pub mod Spines
+pub mod DocumentLaw
+pub mod Soundness
+pub mod CodesLaw
+pub mod Accepting
+pub mod Building
+pub mod AlikeCodes
