@@ -1,0 +1,6 @@
+pub mod Tokens
+pub mod Spellings
+pub mod Names
+pub mod Lexing
+pub mod Examples
+pub mod Beginnings
