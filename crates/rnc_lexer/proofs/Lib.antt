@@ -1,0 +1,9 @@
+pub mod Fronts
+pub mod Gaps
+pub mod NameForms
+pub mod Leads
+pub mod SymbolForms
+pub mod Limits
+pub mod Quotes
+pub mod Numbers
+pub mod Refusals
