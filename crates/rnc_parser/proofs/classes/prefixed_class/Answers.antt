@@ -1,0 +1,17 @@
+use Rattle.std.proofs.Common.{sym, subst}
+use Rattle.grammar_laws.specs.Grammar.{ReadsBareClass}
+use Rattle.rnc_parser.specs.Reading.{parsed}
+use Rattle.rnc_parser.proofs.Steps.{begin, took, missing, passed_on}
+use Rattle.rnc_parser.proofs.Shapes as shape
+use Rattle.rnc_parser.proofs.Folds as fold
+use Rattle.rnc_parser.proofs.classes.prefixed_class.Goals as goal
+
+pub returns-in_err-prefix-clause-parsed : goal.returns-in_err-prefix-clause-parsed
+returns-in_err-prefix-clause-parsed c =
+    passed_on c.from_residual.result c.from_residual.ensures.1 (missing _ begin c.in_err-prefix.ensures)
+
+pub returns-clause-parsed : goal.returns-clause-parsed
+returns-clause-parsed c =
+    parsed
+    (subst (ReadsBareClass c.args.tokens.now c.prefixed_name.new.self) (sym (fold.class_prefixed c.in_ok-prefix.prefix c.in_ok-prefix.local c.in_ok-prefix.at)) (shape.prefixed_class_read c.in_ok-prefix.ensures))
+    (took begin c.in_ok-prefix.ensures)

@@ -1,0 +1,21 @@
+use Rattle.std.proofs.Common.{sym, subst}
+use Rattle.grammar_laws.specs.Grammar.{ReadsBare}
+use Rattle.rnc_parser.specs.Reading.{parsed}
+use Rattle.rnc_parser.proofs.Steps.{begin, took, missing, passed_on}
+use Rattle.rnc_parser.proofs.Shapes as shape
+use Rattle.rnc_parser.proofs.Folds as fold
+use Rattle.rnc_parser.proofs.patterns.parent.Goals as goal
+
+pub returns-in_err-at-clause-parsed : goal.returns-in_err-at-clause-parsed
+returns-in_err-at-clause-parsed c =
+    passed_on c.from_residual.result c.from_residual.ensures.1 (missing _ begin c.in_err-at.ensures)
+
+pub returns-in_err-name-clause-parsed : goal.returns-in_err-name-clause-parsed
+returns-in_err-name-clause-parsed c =
+    passed_on c.from_residual-in_err-name.result c.from_residual-in_err-name.ensures.1 (missing _ (took begin c.in_ok-at.ensures) c.in_err-name.ensures)
+
+pub returns-clause-parsed : goal.returns-clause-parsed
+returns-clause-parsed c =
+    parsed
+    (subst (ReadsBare c.args.tokens.now c.plain_name.new.self) (sym (fold.pattern_parent c.in_ok-name.name c.in_ok-at.at)) (shape.parent_read c.in_ok-at.ensures c.in_ok-name.ensures))
+    (took (took begin c.in_ok-at.ensures) c.in_ok-name.ensures)

@@ -1,0 +1,14 @@
+use Rattle.rnc_parser.specs.Reading.{parsed}
+use Rattle.rnc_parser.proofs.Steps.{begin, read, inside, passed_on, made}
+use Rattle.rnc_parser.proofs.Tops as top
+use Rattle.rnc_parser.proofs.schema.pattern_body.Goals as goal
+
+pub returns-in_err-found : goal.returns-in_err-found
+returns-in_err-found c =
+    passed_on c.from_residual.result c.from_residual.ensures.1 (inside begin c.in_err-found.ensures.parsed)
+
+pub returns : goal.returns
+returns c =
+    parsed
+    (top.pattern_body (made c.in_ok-found.ensures.parsed))
+    (read begin c.in_ok-found.ensures.parsed)

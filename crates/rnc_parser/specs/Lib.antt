@@ -1,0 +1,4 @@
+pub mod Trees
+pub mod Expecting
+pub mod Reading
+pub mod Parts

@@ -1,0 +1,27 @@
+//! The parser of RELAX NG's compact syntax: the parts of a file as they are written, or the first token with which no part of
+//! the grammar can go on.
+#![tactic(auto)]
+
+mod annotations;
+mod classes;
+mod cursor;
+mod datatypes;
+mod forms;
+mod literals;
+mod names;
+mod patterns;
+mod prologue;
+mod schema;
+mod stop;
+mod tree;
+
+pub use classes::class;
+pub use cursor::Cursor;
+pub use patterns::{items, pattern};
+pub use prologue::declarations;
+pub use schema::{Parts, file};
+pub use stop::Stop;
+pub use tree::{Body, Class, Declaration, Item, Method, Parameter, Passed, Pattern, TypeName, Uri};
+
+#[cfg(test)]
+mod tests;
