@@ -1,0 +1,10 @@
+mod Absent
+mod Growing
+mod Adding
+mod Starting
+mod Merging
+mod Comparing
+mod Describing
+mod Widening
+mod Taking
+mod Cutting

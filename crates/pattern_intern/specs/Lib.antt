@@ -1,0 +1,8 @@
+pub mod Ordered
+pub mod Depths
+pub mod Stored
+pub mod Facts
+pub mod Trees
+pub mod Interned
+pub mod Comparisons
+pub mod Steps

@@ -1,0 +1,19 @@
+//! Patterns by number: equal numbers exactly for equal patterns, and every number keeps its pattern.
+#![tactic(auto)]
+
+mod choice;
+mod compare;
+mod constructors;
+mod facts;
+mod id;
+mod intern;
+mod node;
+mod pool;
+
+pub use facts::ContentType;
+pub use id::{ClassId, LiteralId, PatternId};
+pub use node::Node;
+pub use pool::Pool;
+
+#[cfg(test)]
+mod tests;
