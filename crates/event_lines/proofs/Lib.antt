@@ -1,0 +1,4 @@
+pub mod Sending
+pub mod Escaping
+pub mod Listing
+pub mod Written

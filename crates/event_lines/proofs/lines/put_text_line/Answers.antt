@@ -1,0 +1,19 @@
+use Rattle.std.specs.Prelude.{codes}
+use Rattle.std.proofs.Common.{[], ◌∷◌, flat_map}
+use Rattle.rng_model.specs.Lines.{text_escape}
+use Rattle.event_lines.proofs.Sending.{on_err, fails_first, fails_second, ok_third, err_third}
+use Rattle.event_lines.proofs.lines.put_text_line.Goals as goal
+
+pub returns-in_err-put-clause-err : goal.returns-in_err-put-clause-err
+returns-in_err-put-clause-err g c =
+    on_err c.from_residual.result (fails_first (c.args.first ∷ []) (flat_map text_escape c.args.text.now) (codes "\n") c.in_err-put.ensures.err)
+
+pub returns-in_err-put_text-clause-err : goal.returns-in_err-put_text-clause-err
+returns-in_err-put_text-clause-err g c =
+    on_err c.from_residual-in_err-put_text.result (fails_second (c.args.first ∷ []) (flat_map text_escape c.args.text.now) (codes "\n") c.in_ok-put.ensures.ok c.in_err-put_text.ensures.err)
+
+pub returns-clause-ok : goal.returns-clause-ok
+returns-clause-ok g c = ok_third _ c.end_line.result (c.args.first ∷ []) (flat_map text_escape c.args.text.now) (codes "\n") c.in_ok-put.ensures.ok c.in_ok-put_text.ensures.ok c.end_line.ensures.ok
+
+pub returns-clause-err : goal.returns-clause-err
+returns-clause-err g c = err_third _ c.end_line.result (c.args.first ∷ []) (flat_map text_escape c.args.text.now) (codes "\n") c.in_ok-put.ensures.ok c.in_ok-put_text.ensures.ok c.end_line.ensures.err

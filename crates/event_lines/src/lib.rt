@@ -1,0 +1,13 @@
+//! Skeletons as text: one line for each event, and an empty line.
+#![tactic(auto)]
+
+mod escapes;
+mod line_buffer;
+mod lines;
+mod pieces;
+mod writing;
+
+pub use writing::{WriteFault, write_name_line, write_skeleton, write_text_line};
+
+#[cfg(test)]
+mod tests;
