@@ -1,0 +1,10 @@
+pub mod Words
+pub mod Status
+pub mod Reading
+pub mod Pending
+pub mod Owed
+pub mod OneElementTokens
+pub mod Accepting
+pub mod Refusals
+pub mod Requests
+pub mod Runs

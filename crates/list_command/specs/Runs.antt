@@ -1,0 +1,75 @@
+-- What a run may do: this project's own.
+use Rattle.std.specs.Prelude.{◌≡◌, ℕ, ◌⊎◌, ⊤, List, [], Option, Some, None}
+use Rattle.std.specs.Io.KnownBytes.{Keeps, Appends}
+use Rattle.rng_model.specs.Texts.{Text}
+use Rattle.outside.specs.Counts.{Rose, RisesAtMost}
+use Rattle.outside.specs.Devices.{Shelved, IsFrontOf, AppendsFront}
+use Rattle.list_command.specs.declared.outcome.Outcome.{Outcome}
+use Rattle.list_command.specs.Words.{Request, HasForm}
+use Rattle.list_command.specs.Reading.{calls_for}
+use Rattle.list_command.specs.Owed.{Owes}
+use Rattle.list_command.specs.Accepting.{Refuses, Accepts}
+use Rattle.list_command.specs.Status.{fault_line}
+use Rattle.list_command.specs.Requests.{request_of}
+use Rattle.list_command.specs.declared.words.Listing.{Listing}
+
+-- what these words owe over these files
+abbrev pub OwesFor : List Text → Shelved → List Text → Outcome → List ℕ → Type 0
+OwesFor = Owes Refuses Accepts
+
+-- a front of the bytes that are owed
+abbrev pub IsFrontOfOwed : List Text → Shelved → List ℕ → Type 0
+IsFrontOfOwed words files written =
+    (needed : List Text) (outcome : Outcome) (bytes : List ℕ) → OwesFor words files needed outcome bytes → IsFrontOf written bytes
+
+-- Over told files the outcome is the one that is owed, or a run ends earlier with its cause. Where the output's bytes are told, they have
+-- grown by the bytes that are owed, by nothing after a failed read, and else by a front of what is owed.
+pub data EndsAsOwed (words : List Text) (files : Shelved) (taken taken_now : Option (List ℕ)) (reads reads_now writes writes_now : ℕ) : Outcome → Type 0 where
+  owed : {needed : List Text} {outcome : Outcome} {bytes : List ℕ} →
+      OwesFor words files needed outcome bytes → Appends taken taken_now bytes → EndsAsOwed words files taken taken_now reads reads_now writes writes_now outcome
+  read_fault : Rose reads reads_now → Keeps taken taken_now → EndsAsOwed words files taken taken_now reads reads_now writes writes_now Outcome.ReadFault
+  write_fault : (written : List ℕ) →
+      Rose writes writes_now → IsFrontOfOwed words files written → Appends taken taken_now written →
+      EndsAsOwed words files taken taken_now reads reads_now writes writes_now Outcome.WriteFault
+  out_of_memory : {request : Request} (written : List ℕ) →
+      HasForm words request → IsFrontOfOwed words files written → Appends taken taken_now written →
+      EndsAsOwed words files taken taken_now reads reads_now writes writes_now Outcome.OutOfMemory
+
+-- the files are told, and a file that is needed isn't held
+abbrev pub IsReadFaultOwed : List Text → Option Shelved → Type 0
+IsReadFaultOwed words None = ⊥
+IsReadFaultOwed words (Some files) = (needed : List Text) × OwesFor words files needed Outcome.ReadFault []
+
+-- a read or a write failed
+abbrev pub IsFault : Outcome → Type 0
+IsFault Outcome.ReadFault = ⊤
+IsFault Outcome.WriteFault = ⊤
+IsFault _ = ⊥
+
+-- where the files are told, the calls are at most those for the files that are needed
+abbrev pub CallsAsNeeded : List Text → Option Shelved → Option ℕ → Option ℕ → Type 0
+CallsAsNeeded words None calls calls_now = ⊤
+CallsAsNeeded words (Some files) calls calls_now =
+    (needed : List Text) (outcome : Outcome) (bytes : List ℕ) → OwesFor words files needed outcome bytes → RisesAtMost (calls_for files needed) calls calls_now
+
+-- the fault line was taken, or a front of it where the count rose; nothing where there is no line
+abbrev pub WritesLine : Option (List ℕ) → Option (List ℕ) → Option (List ℕ) → ℕ → ℕ → Type 0
+WritesLine None taken taken_now faults faults_now = Keeps taken taken_now × (faults_now ≡ faults)
+WritesLine (Some line) taken taken_now faults faults_now =
+    (Appends taken taken_now line × (faults_now ≡ faults)) ⊎ (AppendsFront taken taken_now line × Rose faults faults_now)
+
+-- the fault line of the outcome
+abbrev pub WritesFaultLine : Outcome → Option (List ℕ) → Option (List ℕ) → ℕ → ℕ → Type 0
+WritesFaultLine outcome taken taken_now faults faults_now = WritesLine (fault_line outcome) taken taken_now faults faults_now
+
+-- The same of a listing that was asked for, for all words of its form.
+module _ (listing : Listing) where
+  abbrev pub ListsAsOwed : Shelved → Option (List ℕ) → Option (List ℕ) → ℕ → ℕ → ℕ → ℕ → Outcome → Type 0
+  ListsAsOwed files taken taken_now reads reads_now writes writes_now outcome =
+      (words : List Text) → HasForm words (request_of listing) → EndsAsOwed words files taken taken_now reads reads_now writes writes_now outcome
+
+  abbrev pub MissesAsOwed : Option Shelved → Type 0
+  MissesAsOwed files = (words : List Text) → HasForm words (request_of listing) → IsReadFaultOwed words files
+
+  abbrev pub CallsForListing : Option Shelved → Option ℕ → Option ℕ → Type 0
+  CallsForListing files calls calls_now = (words : List Text) → HasForm words (request_of listing) → CallsAsNeeded words files calls calls_now

@@ -1,0 +1,35 @@
+-- The exit status of an outcome, and the fault line: this project's own.
+use Rattle.std.specs.Prelude.{ℕ, List, ◌++◌, Option, Some, None, codes, decimal}
+use Rattle.list_command.specs.declared.outcome.Outcome.{Outcome}
+use Rattle.list_command.specs.declared.outcome.Outcome.TheVariants.{Done, Words, SchemaRefused, ReadFault, WriteFault, OutOfMemory}
+use Rattle.list_command.specs.declared.outcome.SchemaFault.{SchemaFault}
+use Rattle.list_command.specs.declared.outcome.SchemaFault.TheVariants.{BadUtf8, BadCharacter, OpenLiteral, BadEscape, EscapeRefused, LiteralTooLong, NameTooLong, TooLong, NotYet}
+
+abbrev pub status_of : Outcome → ℕ
+status_of Done = 0
+status_of Words = 2
+status_of (SchemaRefused fault name) = 3
+status_of ReadFault = 6
+status_of WriteFault = 7
+status_of OutOfMemory = 8
+
+-- the number and name of a fault, and its place if it has one
+abbrev pub schema_fault_text : SchemaFault → List ℕ
+schema_fault_text (BadUtf8 place) = codes "1 BadUtf8 at " ++ decimal place
+schema_fault_text (BadCharacter place) = codes "2 BadCharacter at " ++ decimal place
+schema_fault_text (OpenLiteral place) = codes "3 OpenLiteral at " ++ decimal place
+schema_fault_text (BadEscape place) = codes "4 BadEscape at " ++ decimal place
+schema_fault_text (EscapeRefused place) = codes "5 EscapeRefused at " ++ decimal place
+schema_fault_text (LiteralTooLong place) = codes "6 LiteralTooLong at " ++ decimal place
+schema_fault_text (NameTooLong place) = codes "7 NameTooLong at " ++ decimal place
+schema_fault_text TooLong = codes "8 TooLong"
+schema_fault_text NotYet = codes "9 NotYet"
+
+-- What goes to `err`, where one schema file was opened: nothing for a run that did its work.
+unfoldable pub fault_line : Outcome → Option (List ℕ)
+fault_line Done = None
+fault_line Words = Some (codes "words\n")
+fault_line (SchemaRefused fault name) = Some (codes "schema " ++ schema_fault_text fault ++ codes "\n")
+fault_line ReadFault = Some (codes "read\n")
+fault_line WriteFault = Some (codes "write\n")
+fault_line OutOfMemory = Some (codes "memory\n")

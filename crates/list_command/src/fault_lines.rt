@@ -1,0 +1,86 @@
+// The fault line of an outcome.
+ghost use Rattle.std.specs.Prelude.{◌≡◌, ◌≤◌, ◌+◌, ◌++◌, Some, length, decimal};
+ghost use Rattle.list_command.specs.Status.{fault_line, schema_fault_text};
+ghost use Rattle.list_command.specs.Runs.{WritesLine, WritesFaultLine};
+
+use crate::line::Line;
+use crate::outcome::{Outcome, SchemaFault};
+use outside::{Sink, write_all};
+
+/// Writes the fault line of an outcome, where it has one, as one piece. A failed write changes no outcome.
+pub fn write_fault_line<E: Sink>(outcome: &Outcome, err: &mut E)
+    ensures { WritesFaultLine outcome.now (E.taken err.old) (E.taken err.new) (E.faults err.old) (E.faults err.new) }
+{
+    if let Some(line) = line_of(outcome) {
+        write_line(line.as_bytes(), err);
+    }
+}
+
+/// The fault line of an outcome, where it has one.
+#[tactic(auto, unfolding(crate::specs::Status::fault_line))]
+fn line_of(outcome: &Outcome) -> Option<Line>
+    ensures { result ≡ fault_line outcome.now }
+{
+    let mut line = Line::new();
+    match outcome {
+        Outcome::Done => return None,
+        Outcome::Words => {
+            line.text(b"words\n");
+            Some(line)
+        }
+        Outcome::ReadFault => {
+            line.text(b"read\n");
+            Some(line)
+        }
+        Outcome::WriteFault => {
+            line.text(b"write\n");
+            Some(line)
+        }
+        Outcome::OutOfMemory => {
+            line.text(b"memory\n");
+            Some(line)
+        }
+        Outcome::SchemaRefused(fault, _) => {
+            line.text(b"schema ");
+            schema_fault(fault, &mut line);
+            line.text(b"\n");
+            Some(line)
+        }
+    }
+}
+
+/// Writes a line, as far as it is taken.
+fn write_line<E: Sink>(line: &[u8], err: &mut E)
+    ensures { WritesLine (Some line.now) (E.taken err.old) (E.taken err.new) (E.faults err.old) (E.faults err.new) }
+{
+    let _ = write_all(err, line);
+}
+
+/// A text, and then a number.
+fn numbered(text: &[u8], number: usize, line: &mut Line)
+    requires { length line.old + length text.now ≤ 70 }
+    ensures text { line.new ≡ line.old ++ (text.now ++ decimal number) }
+    ensures len { length line.new ≤ length line.old + length text.now + 20 }
+{
+    line.text(text);
+    line.number(number);
+}
+
+/// The number and name of a schema's fault, and its place.
+fn schema_fault(fault: &SchemaFault, line: &mut Line)
+    requires { length line.old ≤ 10 }
+    ensures text { line.new ≡ line.old ++ schema_fault_text fault.now }
+    ensures short { length line.new ≤ 80 }
+{
+    match fault {
+        SchemaFault::BadUtf8 { at } => numbered(b"1 BadUtf8 at ", *at, line),
+        SchemaFault::BadCharacter { at } => numbered(b"2 BadCharacter at ", *at, line),
+        SchemaFault::OpenLiteral { at } => numbered(b"3 OpenLiteral at ", *at, line),
+        SchemaFault::BadEscape { at } => numbered(b"4 BadEscape at ", *at, line),
+        SchemaFault::EscapeRefused { at } => numbered(b"5 EscapeRefused at ", *at, line),
+        SchemaFault::LiteralTooLong { at } => numbered(b"6 LiteralTooLong at ", *at, line),
+        SchemaFault::NameTooLong { at } => numbered(b"7 NameTooLong at ", *at, line),
+        SchemaFault::TooLong => line.text(b"8 TooLong"),
+        SchemaFault::NotYet => line.text(b"9 NotYet"),
+    }
+}

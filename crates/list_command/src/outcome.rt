@@ -1,0 +1,60 @@
+// How a run ends.
+ghost use Rattle.std.specs.Prelude.{◌≡◌};
+ghost use Rattle.list_command.specs.Status.{status_of};
+
+use text_atoms::Text;
+
+/// Why a schema is refused. A place counts the bytes before it.
+#[derive(Debug, Drop)]
+pub enum SchemaFault {
+    /// Its bytes aren't UTF-8; the place of the first ill-formed sequence.
+    BadUtf8 { at: usize },
+    /// A character that isn't allowed, or one that begins no token.
+    BadCharacter { at: usize },
+    /// A segment of a literal that isn't closed; the place of its first quote.
+    OpenLiteral { at: usize },
+    /// An escape in a literal that isn't valid; the place of its backslash.
+    BadEscape { at: usize },
+    /// An escape outside literals, or one that stands for a quote; the place of its backslash.
+    EscapeRefused { at: usize },
+    /// A literal of more than 4,096 bytes; the place of the segment with which it passes the limit.
+    LiteralTooLong { at: usize },
+    /// A name of more than 1,024 bytes; the place of its first byte, without the backslash.
+    NameTooLong { at: usize },
+    /// It has over 1,048,576 bytes.
+    TooLong,
+    /// It is a schema that can't be listed yet, or none.
+    NotYet,
+}
+
+/// How a run ends.
+#[derive(Debug, Drop)]
+pub enum Outcome {
+    /// All that was asked for is done.
+    Done,
+    /// The words have no form.
+    Words,
+    /// The schema is refused; the text is the name of its file.
+    SchemaRefused(SchemaFault, Text),
+    /// A file couldn't be read, or isn't there.
+    ReadFault,
+    /// The output couldn't be written.
+    WriteFault,
+    OutOfMemory,
+}
+
+impl Outcome {
+    /// The exit status.
+    pub fn status(&self) -> u8
+        ensures { result ≡ status_of self.now }
+    {
+        match self {
+            Outcome::Done => 0,
+            Outcome::Words => 2,
+            Outcome::SchemaRefused(_, _) => 3,
+            Outcome::ReadFault => 6,
+            Outcome::WriteFault => 7,
+            Outcome::OutOfMemory => 8,
+        }
+    }
+}

@@ -1,0 +1,255 @@
+// Runs over a shelf and sinks in memory: the bytes, the fault line and the status.
+ghost use Rattle.std.specs.Prelude.{◌≡◌, ◌<◌};
+
+use crate::{Outcome, run};
+use outside::{Calls, Files, MemShelf, MemSink, Steps};
+use std::alloc::{AllocError, Global};
+use std::marker::Brand;
+use std::sync::ledger::{Blank, Ledger};
+
+const SCHEMA: &str = "element a { empty }";
+
+const TEXT: &str = "(a\n>\n)\n\n";
+
+const NOT_YET: &str = "schema 9 NotYet\n";
+
+/// A run that counts its steps from 0.
+fn counted<L: Ledger>(
+    alloc: Global,
+    blank: Blank,
+    words: &Vec<String>,
+    shelf: &mut MemShelf,
+    out: &mut MemSink,
+    err: &mut MemSink,
+) -> Outcome
+    requires name { blank.name ≡ L.name }
+    requires parts { blank.parts ≡ L.parts }
+    requires some { 0 < L.parts }
+{
+    let mut steps: Steps<L> = Steps::new(blank);
+    run(alloc, words, shelf, out, err, &mut steps)
+}
+
+/// The words of a line, none where it is empty.
+fn words_of(alloc: Global, line: &str) -> Result<Vec<String>, AllocError> {
+    let mut words = Vec::new(alloc);
+    for word in line.split_whitespace() {
+        words.push(String::from_str(alloc, word)?)?;
+    }
+    Ok(words)
+}
+
+/// The numbers of the calls that fail: one or none.
+fn calls_of(alloc: Global, failing: Option<u64>) -> Result<Calls, AllocError> {
+    let mut calls = Calls::new(alloc);
+    if let Some(call) = failing {
+        calls.push(call)?;
+    }
+    Ok(calls)
+}
+
+/// What a run over the file `f` left behind.
+#[derive(Drop)]
+struct Ending {
+    status: u8,
+    out: MemSink,
+    err: MemSink,
+}
+
+impl Ending {
+    fn wrote(&self, out: &str, err: &str) -> bool {
+        let taken = self.out.taken();
+        let line = self.err.taken();
+        taken == out.as_bytes() && line == err.as_bytes()
+    }
+}
+
+/// A run over the file `f` with these bytes. The shelf gives one byte at a time, and fails at one call, where one is named.
+fn run_over(
+    alloc: Global,
+    words: &str,
+    schema: &[u8],
+    failing: Option<u64>,
+    room: usize,
+) -> Result<Ending, AllocError> {
+    let words = words_of(alloc, words)?;
+    let mut files = Files::new(alloc);
+    let name = String::from_str(alloc, "f")?;
+    let bytes = Vec::from_slice(alloc, schema)?;
+    files.push(name, bytes)?;
+    let mut shelf = MemShelf::new(files, calls_of(alloc, failing)?, 1);
+    let mut out = MemSink::new(alloc, room, Calls::new(alloc), 65_536)?;
+    let mut err = MemSink::new(alloc, 100, Calls::new(alloc), 65_536)?;
+    let blank = Blank::new(1);
+    let outcome = counted::<Brand>(alloc, blank, &words, &mut shelf, &mut out, &mut err);
+    Ok(Ending {
+        status: outcome.status(),
+        out,
+        err,
+    })
+}
+
+/// Whether the run, with no call failing and ample room, ends so.
+fn gives(
+    alloc: Global,
+    words: &str,
+    schema: &[u8],
+    status: u8,
+    out: &str,
+    err: &str,
+) -> Result<bool, AllocError> {
+    let ending = run_over(alloc, words, schema, None, 65_536)?;
+    Ok(ending.status == status && ending.wrote(out, err))
+}
+
+#[test]
+fn rows(rt: HostRuntime) -> Result<(), AllocError> {
+    let rows = [
+        ("list 1 f", SCHEMA, 0, TEXT, ""),
+        ("list 64 f", " \nelement\n a{empty}\n \n", 0, TEXT, ""),
+        (
+            "list 1 f",
+            "element Ab { \n empty\n}",
+            0,
+            "(Ab\n>\n)\n\n",
+            "",
+        ),
+        ("list 1 f", "element a-1 { empty }", 0, "(a-1\n>\n)\n\n", ""),
+        (
+            "list 1 f",
+            "element \\element { empty }",
+            0,
+            "(element\n>\n)\n\n",
+            "",
+        ),
+        (
+            "list 1 f",
+            "\u{FEFF}## {\r\nelement#\n\ta {\r empty#}\n}#",
+            0,
+            TEXT,
+            "",
+        ),
+        ("list 1 f", "element a { text }", 3, "", NOT_YET),
+        ("list 1 f", "element token { empty }", 3, "", NOT_YET),
+        ("list 1 f", "elementa { empty }", 3, "", NOT_YET),
+        ("list 1 f", "\\element a { empty }", 3, "", NOT_YET),
+        ("list 1 f", "element a:b { empty }", 3, "", NOT_YET),
+        ("list 1 f", "element a { empty } }", 3, "", NOT_YET),
+        ("list 1 f", "element a { empty", 3, "", NOT_YET),
+        ("list 1 f", "", 3, "", NOT_YET),
+        ("list 1 g", SCHEMA, 6, "", "read\n"),
+        ("list 0 f", SCHEMA, 2, "", "words\n"),
+        ("list 65 f", SCHEMA, 2, "", "words\n"),
+        ("list 01 f", SCHEMA, 2, "", "words\n"),
+        ("list 1", SCHEMA, 2, "", "words\n"),
+        ("states 1 f", SCHEMA, 2, "", "words\n"),
+        ("", SCHEMA, 2, "", "words\n"),
+    ];
+    for (words, schema, status, out, err) in rows {
+        let holds = gives(rt.alloc(), words, schema.as_bytes(), status, out, err)?;
+        assert!(rt; holds);
+    }
+    Ok(())
+}
+
+#[test]
+fn lexing_faults(rt: HostRuntime) -> Result<(), AllocError> {
+    let rows: [(&[u8], &str); 6] = [
+        (b"element a\xFF", "schema 1 BadUtf8 at 9\n"),
+        (b"element $ { empty }", "schema 2 BadCharacter at 8\n"),
+        (b"element a { \"x", "schema 3 OpenLiteral at 12\n"),
+        (
+            b"element a { \"\\x{110000}\" }",
+            "schema 4 BadEscape at 13\n",
+        ),
+        (
+            b"element a { \"\\x{22}\" }",
+            "schema 5 EscapeRefused at 13\n",
+        ),
+        (
+            b"\\x{65}lement a { empty }",
+            "schema 5 EscapeRefused at 0\n",
+        ),
+    ];
+    for (schema, err) in rows {
+        let holds = gives(rt.alloc(), "list 1 f", schema, 3, "", err)?;
+        assert!(rt; holds);
+    }
+    Ok(())
+}
+
+#[test]
+fn failing_calls(rt: HostRuntime) -> Result<(), AllocError> {
+    let alloc = rt.alloc();
+    // An opening, a read for each of 19 bytes, and the read that finds the end.
+    for call in 0..21 {
+        let ending = run_over(alloc, "list 1 f", SCHEMA.as_bytes(), Some(call), 65_536)?;
+        assert!(rt; ending.status == 6 && ending.wrote("", "read\n"));
+    }
+    let whole = run_over(alloc, "list 1 f", SCHEMA.as_bytes(), Some(21), 65_536)?;
+    assert!(rt; whole.status == 0 && whole.wrote(TEXT, ""));
+    let cut = run_over(alloc, "list 1 f", SCHEMA.as_bytes(), None, 3)?;
+    assert!(rt; cut.status == 7 && cut.wrote("(a\n", "write\n"));
+    Ok(())
+}
+
+/// The letter b so many times, between two texts.
+fn long(alloc: Global, front: &str, letters: usize, back: &str) -> Result<String, AllocError> {
+    let mut text = String::from_str(alloc, front)?;
+    text.push_str("b".repeat(alloc, letters)?.as_str())?;
+    text.push_str(back)?;
+    Ok(text)
+}
+
+/// Whether a name of so many letters gives these.
+fn names(
+    alloc: Global,
+    letters: usize,
+    status: u8,
+    out: &str,
+    err: &str,
+) -> Result<bool, AllocError> {
+    let schema = long(alloc, "element ", letters, " { empty }")?;
+    gives(alloc, "list 1 f", schema.as_bytes(), status, out, err)
+}
+
+/// Whether a schema with a literal of so many letters is refused so.
+fn literals(alloc: Global, letters: usize, err: &str) -> Result<bool, AllocError> {
+    let schema = long(alloc, "element a { \"", letters, "\" }")?;
+    gives(alloc, "list 1 f", schema.as_bytes(), 3, "", err)
+}
+
+#[test]
+fn name_and_literal_limits(rt: HostRuntime) -> Result<(), AllocError> {
+    let alloc = rt.alloc();
+    let text = long(alloc, "(", 1024, "\n>\n)\n\n")?;
+    let longest = names(alloc, 1024, 0, text.as_str(), "")?;
+    assert!(rt; longest);
+    let longer = names(alloc, 1025, 3, "", "schema 7 NameTooLong at 8\n")?;
+    assert!(rt; longer);
+    let longest = literals(alloc, 4096, NOT_YET)?;
+    assert!(rt; longest);
+    let longer = literals(alloc, 4097, "schema 6 LiteralTooLong at 12\n")?;
+    assert!(rt; longer);
+    Ok(())
+}
+
+#[test]
+fn schema_limit(rt: HostRuntime) -> Result<(), AllocError> {
+    let alloc = rt.alloc();
+    let mut bytes = vec![in alloc; b' '; 1_048_576 - SCHEMA.len()]?;
+    bytes.extend_from_slice(SCHEMA.as_bytes())?;
+    let full = gives(alloc, "list 1 f", bytes.as_slice(), 0, TEXT, "")?;
+    assert!(rt; full);
+    bytes.push(b'\n')?;
+    let over = gives(
+        alloc,
+        "list 1 f",
+        bytes.as_slice(),
+        3,
+        "",
+        "schema 8 TooLong\n",
+    )?;
+    assert!(rt; over);
+    Ok(())
+}

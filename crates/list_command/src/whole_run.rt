@@ -1,0 +1,68 @@
+// A whole run.
+ghost use Rattle.std.specs.Prelude.{◌≡◌, ◌⊎◌, ◌↔◌, ◌≤◌, ◌++◌, [], ℕ, List, Some, map, string_bytes};
+ghost use Rattle.outside.specs.Counts.{Rose};
+ghost use Rattle.outside.specs.Devices.{Shelved};
+ghost use Rattle.list_command.specs.Words.{HasNoForm};
+ghost use Rattle.list_command.specs.Runs.{EndsAsOwed, IsReadFaultOwed, IsFault, CallsAsNeeded, WritesFaultLine};
+
+use crate::fault_lines::write_fault_line;
+use crate::listing::list;
+use crate::outcome::Outcome;
+use crate::words::read_words;
+use outside::{Shelf, Sink, Steps};
+use std::alloc::Global;
+use std::sync::ledger::Ledger;
+
+/// Does what the words ask for, and writes a fault line where there is one.
+pub fn run<F: Shelf, O: Sink, E: Sink, L: Ledger>(
+    alloc: Global,
+    words: &Vec<String>,
+    shelf: &mut F,
+    out: &mut O,
+    err: &mut E,
+    steps: &mut Steps<L>,
+) -> Outcome
+    // The headline.
+    ensures owed { (files : Shelved) → F.files shelf.old ≡ Some files →
+        EndsAsOwed (map string_bytes words.now.items) files (O.taken out.old) (O.taken out.new)
+        (F.faults shelf.old) (F.faults shelf.new) (O.faults out.old) (O.faults out.new) result }
+
+    // For every shelf and sink, telling or not.
+    ensures words { (result ≡ Outcome.Words) ↔ HasNoForm (map string_bytes words.now.items) }
+    ensures read_fault { result ≡ Outcome.ReadFault →
+        Rose (F.faults shelf.old) (F.faults shelf.new) ⊎ IsReadFaultOwed (map string_bytes words.now.items) (F.files shelf.old) }
+    ensures write_fault { result ≡ Outcome.WriteFault → Rose (O.faults out.old) (O.faults out.new) }
+
+    // After a failed read or write the run ends with that fault.
+    ensures no_fault { IsFault result ⊎ ((F.faults shelf.new ≡ F.faults shelf.old) × (O.faults out.new ≡ O.faults out.old)) }
+    ensures misses { (F.misses shelf.new ≡ F.misses shelf.old) ⊎ IsReadFaultOwed (map string_bytes words.now.items) (F.files shelf.old) }
+    ensures calls { CallsAsNeeded (map string_bytes words.now.items) (F.files shelf.old) (F.calls shelf.old) (F.calls shelf.new) }
+
+    ensures line { WritesFaultLine result (E.taken err.old) (E.taken err.new) (E.faults err.old) (E.faults err.new) }
+    ensures ticks { steps.new ≡ steps.old }
+{
+    let outcome = answer(alloc, words.as_slice(), shelf, out);
+    write_fault_line(&outcome, err);
+    outcome
+}
+
+/// Does what the words ask for.
+fn answer<F: Shelf, O: Sink>(alloc: Global, words: &[String], shelf: &mut F, out: &mut O) -> Outcome
+    ensures owed { (files : Shelved) → F.files shelf.old ≡ Some files →
+        EndsAsOwed (map string_bytes words.now) files (O.taken out.old) (O.taken out.new)
+        (F.faults shelf.old) (F.faults shelf.new) (O.faults out.old) (O.faults out.new) result }
+
+    ensures words { (result ≡ Outcome.Words) ↔ HasNoForm (map string_bytes words.now) }
+    ensures read_fault { result ≡ Outcome.ReadFault →
+        Rose (F.faults shelf.old) (F.faults shelf.new) ⊎ IsReadFaultOwed (map string_bytes words.now) (F.files shelf.old) }
+    ensures write_fault { result ≡ Outcome.WriteFault → Rose (O.faults out.old) (O.faults out.new) }
+
+    ensures no_fault { IsFault result ⊎ ((F.faults shelf.new ≡ F.faults shelf.old) × (O.faults out.new ≡ O.faults out.old)) }
+    ensures misses { (F.misses shelf.new ≡ F.misses shelf.old) ⊎ IsReadFaultOwed (map string_bytes words.now) (F.files shelf.old) }
+    ensures calls { CallsAsNeeded (map string_bytes words.now) (F.files shelf.old) (F.calls shelf.old) (F.calls shelf.new) }
+{
+    let Some(listing) = read_words(words) else {
+        return Outcome::Words;
+    };
+    list(alloc, &listing, shelf, out)
+}
