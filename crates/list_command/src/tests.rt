@@ -137,6 +137,13 @@ fn rows(rt: HostRuntime) -> Result<(), AllocError> {
         ("list 1 f", "element a { empty } }", 3, "", NOT_YET),
         ("list 1 f", "element a { empty", 3, "", NOT_YET),
         ("list 1 f", "", 3, "", NOT_YET),
+        (
+            "list 1 f",
+            "{{{{{{{{{{{{{{{{{{{{{{{{{{{{{{{{{{{{{{{{{{{{{{{{{{{{{{{{{{{{{{{{{{{{{{{{{{{{{{{{{{{{{{{{{{{{{{{{{{{{{{{{{{{{{{{{{{{{{{{{{{{{{{{{{",
+            3,
+            "",
+            NOT_YET,
+        ),
         ("list 1 g", SCHEMA, 6, "", "read\n"),
         ("list 0 f", SCHEMA, 2, "", "words\n"),
         ("list 65 f", SCHEMA, 2, "", "words\n"),
