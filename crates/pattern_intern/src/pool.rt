@@ -268,7 +268,7 @@ impl Pool {
     }
 
     /// The allocator that the pool takes its memory from.
-    pub fn allocator(&self) -> Global {
+    pub(crate) fn allocator(&self) -> Global {
         *self.nodes.allocator()
     }
 }
