@@ -18,7 +18,7 @@ use Rattle.pattern_intern.specs.declared.id.PatternId.{PatternId}
 use Rattle.pattern_intern.specs.declared.node.Node.{Node}
 use Rattle.pattern_intern.specs.declared.node.Node.TheVariants.{NotAllowed, Empty, AnyText, Ref, Value, DataType, Attribute, OneOrMore, Choice, Group, Interleave, After}
 use Rattle.pattern_intern.specs.Ordered.{IsOrdered}
-use Rattle.pattern_intern.specs.Depths.{in_choice, depth}
+use Rattle.rng_model.specs.Depths.{in_choice, depth}
 use Rattle.pattern_intern.specs.Stored.{Stored, stored, count, tree_at, class_at, literal_at, AreApart, Extends}
 use Rattle.pattern_intern.specs.Facts.{IsFacts}
 use Rattle.pattern_intern.specs.Trees.{node_tree, with_node, trees, stored_of, PartsBelow, IsNode, IsPool}

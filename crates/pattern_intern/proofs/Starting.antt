@@ -10,7 +10,7 @@ use Rattle.pattern_intern.specs.declared.facts.Facts.{Facts}
 use Rattle.pattern_intern.specs.declared.node.Node.{Node}
 use Rattle.pattern_intern.specs.declared.node.Node.TheVariants.{NotAllowed, Empty, AnyText}
 use Rattle.pattern_intern.specs.Ordered.{IsOrdered}
-use Rattle.pattern_intern.specs.Depths.{depth}
+use Rattle.rng_model.specs.Depths.{depth}
 use Rattle.pattern_intern.specs.Interned.{IsInterned}
 use Rattle.pattern_intern.specs.Stored.{Stored, count, tree_at, AreApart}
 use Rattle.pattern_intern.specs.Facts.{IsFacts}

@@ -3,7 +3,7 @@ use Rattle.std.specs.Prelude.{◌≡◌, Option, option_map}
 use Rattle.rng_model.specs.Patterns.{Pattern}
 use Rattle.rng_model.specs.Matching.{nullable}
 use Rattle.rng_model.specs.Restrictions.{ContentType, empty_type, complex, simple, content_type}
-use Rattle.pattern_intern.specs.Depths.{depth}
+use Rattle.rng_model.specs.Depths.{depth}
 use Rattle.pattern_intern.specs.declared.facts.ContentType.{ContentType as RustType}
 use Rattle.pattern_intern.specs.declared.facts.ContentType.TheVariants as rust
 use Rattle.pattern_intern.specs.declared.facts.Facts.{Facts}

@@ -1,5 +1,4 @@
 pub mod Ordered
-pub mod Depths
 pub mod Stored
 pub mod Facts
 pub mod Trees

@@ -6,7 +6,7 @@ use Rattle.rng_model.specs.Patterns.{Pattern}
 use Rattle.rng_model.specs.Patterns as pattern
 use Rattle.text_atoms.specs.Kinds.{kind_of}
 use Rattle.pattern_intern.specs.Ordered.{IsOrdered}
-use Rattle.pattern_intern.specs.Depths.{depth}
+use Rattle.rng_model.specs.Depths.{depth}
 use Rattle.pattern_intern.specs.Stored.{Stored, stored, count, tree_at, class_at, literal_at, AreApart}
 use Rattle.pattern_intern.specs.Facts.{IsFacts}
 use Rattle.pattern_intern.specs.declared.facts.Facts.{Facts}

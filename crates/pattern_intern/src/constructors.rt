@@ -4,7 +4,7 @@ ghost use Rattle.rng_model.specs.Classes.{Class};
 ghost use Rattle.rng_model.specs.Patterns as pattern;
 ghost use Rattle.rng_model.specs.Constructors.{after_of, data_of, group_of, interleave_of, one_or_more_of};
 ghost use Rattle.pattern_intern.specs.Comparisons.{IsPlain};
-ghost use Rattle.pattern_intern.specs.Depths.{depth, in_choice};
+ghost use Rattle.rng_model.specs.Depths.{depth, in_choice};
 ghost use Rattle.pattern_intern.specs.Facts.{IsFacts};
 ghost use Rattle.pattern_intern.specs.Ordered.{IsOrdered};
 ghost use Rattle.pattern_intern.specs.Stored.{Extends, count, tree_at};

@@ -6,7 +6,7 @@ ghost use Rattle.rng_model.specs.Matching.{nullable};
 ghost use Rattle.rng_model.specs.Restrictions.{content_type};
 ghost use Rattle.text_atoms.specs.Kinds.{kind_of};
 ghost use Rattle.name_classes.specs.Views.{class_of};
-ghost use Rattle.pattern_intern.specs.Depths.{depth};
+ghost use Rattle.rng_model.specs.Depths.{depth};
 ghost use Rattle.pattern_intern.specs.Facts.{IsFacts, type_of};
 ghost use Rattle.pattern_intern.specs.Ordered.{IsOrdered};
 ghost use Rattle.pattern_intern.specs.Stored.{AreApart, Extends, class_at, count, literal_at, stored, tree_at};

@@ -8,6 +8,7 @@ use Rattle.rng_model.specs.Classes as class
 use Rattle.rng_model.specs.Patterns as simple
 use Rattle.rng_model.specs.Patterns.{Schema, Definition, Defines}
 use Rattle.rng_model.specs.Universe.{IsElementClass, IsAttributeClass}
+use Rattle.rng_model.specs.Depths.{depth, class_depth}
 use Rattle.grammar_laws.specs.Trees.{Class, Classes, no_classes, more_classes, TypeName, built_string, built_token, prefixed_type, Pattern, Patterns, no_pattern, more_patterns, Method, Plain, Choice, Interleave, Declaration, namespace_prefix, default_namespace, datatypes}
 use Rattle.grammar_laws.specs.Files.{SchemaFile, Full}
 use Rattle.grammar_laws.specs.Trees as full
@@ -256,28 +257,7 @@ pub record IsLoop (f : Full) (at : ℕ) : Type 0 where
   pub visited : IsVisited (tree f) place
   pub back : LeadsTo place place
 
--- 42: the depth of a pattern and of a name class
-abbrev pub class_depth : class.Class → ℕ
-class_depth (class.any_except c) = suc (class_depth c)
-class_depth (class.namespace_except u c) = suc (class_depth c)
-class_depth (class.either a b) = suc (max (class_depth a) (class_depth b))
-class_depth c = 1
-
--- the depth that a choice has from its last members, whose depth as a pattern is d
-abbrev pub in_choice : simple.Pattern → ℕ → ℕ
-in_choice (simple.choice p q) d = d
-in_choice p d = suc d
-
-abbrev pub depth : simple.Pattern → ℕ
-depth (simple.data_except k e) = suc (depth e)
-depth (simple.attribute c p) = suc (depth p)
-depth (simple.one_or_more p) = suc (depth p)
-depth (simple.choice p q) = max (suc (depth p)) (in_choice q (depth q))
-depth (simple.group p q) = suc (max (depth p) (depth q))
-depth (simple.interleave p q) = suc (max (depth p) (depth q))
-depth (simple.after p q) = suc (max (depth p) (depth q))
-depth p = 1
-
+-- 42: a pattern or a name class that is too deep
 abbrev pub IsTooDeep : Schema → Type 0
 IsTooDeep g =
     (1024 < depth g.start)
