@@ -6,8 +6,8 @@ use Rattle.token_laws.specs.Tokens.{Symbol, Token, symbol, Placed, ◌at◌, ope
 use Rattle.grammar_laws.specs.Grammar.{IsNoBracket, ReadsFilling, ReadsBlock, ReadsBlocks, ReadsFollow}
 use Rattle.grammar_laws.specs.Grammar as by
 use Rattle.grammar_laws.proofs.Loops.{Fillings, LeadBlocks, next_block, LeadFollow, next_follow}
-use Rattle.rnc_parser.specs.Expecting.{Part, pass, become, refuse, first, next, Stands}
-use Rattle.rnc_parser.specs.Expecting as part
+use Rattle.syntax_laws.specs.Expecting.{Part, pass, become, refuse, first, next, Stands}
+use Rattle.syntax_laws.specs.Expecting as part
 use Rattle.rnc_parser.specs.Reading.{Is, Eats, Takes, InBlock, IsOpenBehind, Fails, no_memory, Parsed, parsed, IsSign, IsBeforeBlock}
 use Rattle.rnc_parser.specs.declared.stop.Stop.{Stop}
 use Rattle.rnc_parser.proofs.Steps.{begin, turn, past, read, took, stuck, made, no_symbol, symbol_first}

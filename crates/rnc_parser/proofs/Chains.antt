@@ -6,8 +6,8 @@ use Rattle.grammar_laws.specs.Trees.{TypeName, patterns_of, items_of}
 use Rattle.grammar_laws.specs.Grammar.{IsType, ReadsLiteral, ReadsBraces, ReadsBlocks, ReadsBare, ReadsPrimary, ReadsParticle, ReadsMembers, ReadsPattern, ReadsItem, ReadsItems, HasNoInclude, IsItemName, ReadsBlock}
 use Rattle.grammar_laws.specs.Grammar as by
 use Rattle.grammar_laws.proofs.Loops.{LeadMembers, no_members, next_member, last_member, LeadItems, no_items_yet, next_item, next_annotation, all_items_read}
-use Rattle.rnc_parser.specs.Expecting.{Part, pass, become, refuse, first, next, Stands, is_symbol, begins_item}
-use Rattle.rnc_parser.specs.Expecting as part
+use Rattle.syntax_laws.specs.Expecting.{Part, pass, become, refuse, first, next, Stands, is_symbol, begins_item}
+use Rattle.syntax_laws.specs.Expecting as part
 use Rattle.rnc_parser.specs.Reading.{Fails, Parsed, parsed}
 use Rattle.rnc_parser.specs.Parts.{ReadsOperand, BehindType, BehindPrimary, BehindParticle, ReadsMore, AreInner, IsInnerItem, ReadsNext, ReadsMoreItems}
 use Rattle.rnc_parser.specs.Trees.{pattern_of, item_of, type_of, parameter_of}

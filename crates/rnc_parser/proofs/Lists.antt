@@ -5,8 +5,8 @@ use Rattle.token_laws.specs.Tokens.{Token, segment, symbol, Placed, ◌at◌, ti
 use Rattle.grammar_laws.specs.Trees as tree
 use Rattle.grammar_laws.specs.Grammar.{ReadsLiteral, ReadsDeclaration, ReadsDeclarations, ReadsParameters}
 use Rattle.grammar_laws.proofs.Loops.{LeadLiteral, no_segment, next_segment, last_segment, LeadDeclarations, no_declarations, next_declaration, all_declarations, LeadParameters, no_parameters, next_parameter, all_parameters}
-use Rattle.rnc_parser.specs.Expecting.{Part, pass, become, refuse, first, next, Stands, is_symbol, begins_declaration, begins_parameter}
-use Rattle.rnc_parser.specs.Expecting as part
+use Rattle.syntax_laws.specs.Expecting.{Part, pass, become, refuse, first, next, Stands, is_symbol, begins_declaration, begins_parameter}
+use Rattle.syntax_laws.specs.Expecting as part
 use Rattle.rnc_parser.specs.Reading.{Parsed, parsed}
 use Rattle.rnc_parser.specs.Parts.{ReadsParameter}
 use Rattle.rnc_parser.proofs.Steps.{begin, turn, past, read, took, made, no_symbol}

@@ -7,8 +7,8 @@ use Rattle.grammar_laws.specs.Trees.{classes_of}
 use Rattle.grammar_laws.specs.Grammar.{ReadsBlocks, ReadsClass, ReadsSimple, ReadsAlternatives, ReadsBareClass, ReadsClassExcept}
 use Rattle.grammar_laws.specs.Grammar as by
 use Rattle.grammar_laws.proofs.Loops.{before_classes}
-use Rattle.rnc_parser.specs.Expecting.{Part, pass, become, refuse, first, next, Stands, is_symbol}
-use Rattle.rnc_parser.specs.Expecting as part
+use Rattle.syntax_laws.specs.Expecting.{Part, pass, become, refuse, first, next, Stands, is_symbol}
+use Rattle.syntax_laws.specs.Expecting as part
 use Rattle.rnc_parser.specs.Reading.{Takes, Parsed, parsed, IsSign, IsNamespaceName}
 use Rattle.rnc_parser.specs.Parts.{ReadsOpenClass, ReadsClassOperand}
 use Rattle.rnc_parser.specs.Trees.{class_of}

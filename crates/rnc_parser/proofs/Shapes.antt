@@ -10,7 +10,7 @@ use Rattle.grammar_laws.specs.Grammar.{IsAnyId, IsItemName, IsAssign, IsType, Is
 use Rattle.grammar_laws.specs.Grammar as by
 use Rattle.rnc_parser.specs.Parts.{ReadsPrefix, ReadsParameter, ReadsOpenClass, ReadsBraced, ReadsExcept, ReadsOpen, BehindPrimary, BehindParticle, BehindPostfix, BehindConnector, ReadsMore, AreInner, IsInnerItem, ReadsNext}
 use Rattle.rnc_parser.specs.Reading.{Eats, Takes, IsKeyword, IsSign, IsPlainName, IsPrefixedName, IsName, IsMethod, IsTypeName}
-use Rattle.rnc_parser.specs.Expecting.{Part}
+use Rattle.syntax_laws.specs.Expecting.{Part}
 use Rattle.rnc_parser.specs.Trees.{method_of, item_of, type_of}
 use Rattle.rnc_parser.specs.declared.tree.TypeName as src
 use Rattle.rnc_parser.specs.declared.tree.Method.{Method}

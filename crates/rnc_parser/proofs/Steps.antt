@@ -8,7 +8,7 @@ use Rattle.std.proofs.Common.{◌≡◌, ℕ, true, false, List, [], ◌∷◌, 
 use Rattle.std.specs.Result.{IsErrAnd}
 use Rattle.std.proofs.lemmas.Result.{err_from_is_err_and}
 use Rattle.token_laws.specs.Tokens.{Keyword, Symbol, Token, keyword, ident, cname, ns_name, symbol, Placed, ◌at◌}
-use Rattle.rnc_parser.specs.Expecting.{Part, pass, become, refuse, first, next, Runs, stay, passes, becomes, Stands, IsRefused, is_symbol, symbol_number}
+use Rattle.syntax_laws.specs.Expecting.{Part, pass, become, refuse, first, next, Runs, stay, passes, becomes, Stands, IsRefused, is_symbol, symbol_number}
 use Rattle.rnc_parser.specs.Reading.{Is, Eats, Misses, Takes, Fails, at_token, no_memory, Parsed, parsed, failed, IsKeyword, IsSign, IsPlainName, IsPrefixedName, IsNamespaceName, IsName}
 use Rattle.rng_model.specs.Texts.{Text}
 use Rattle.grammar_laws.specs.Grammar.{IsAnyId}

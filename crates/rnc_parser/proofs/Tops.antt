@@ -6,8 +6,8 @@ use Rattle.grammar_laws.specs.Trees as tree
 use Rattle.grammar_laws.specs.Trees.{items_of}
 use Rattle.grammar_laws.specs.Grammar.{ReadsBlock, ReadsBlocks, ReadsFollow, ReadsPattern, ReadsItem, ReadsItems, DerivesBody}
 use Rattle.grammar_laws.specs.Grammar as by
-use Rattle.rnc_parser.specs.Expecting.{Part, first, Stands}
-use Rattle.rnc_parser.specs.Expecting as part
+use Rattle.syntax_laws.specs.Expecting.{Part, first, Stands}
+use Rattle.syntax_laws.specs.Expecting as part
 use Rattle.rnc_parser.specs.Reading.{Takes, AtEnd, Fails, at_token, no_memory, Parsed, failed, IsPlainName, IsPrefixedName, IsMethod}
 use Rattle.rnc_parser.specs.Parts.{ReadsOpen, BehindType, BehindPrimary, BehindParticle, BehindBare, ReadsMoreItems, ReadsBody, BehindName}
 use Rattle.rnc_parser.specs.Trees.{pattern_of, item_of}

@@ -1,4 +1,3 @@
 pub mod Trees
-pub mod Expecting
 pub mod Reading
 pub mod Parts

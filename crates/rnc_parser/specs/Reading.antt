@@ -5,7 +5,7 @@ use Rattle.token_laws.specs.Tokens.{Keyword, Symbol, Token, keyword, ident, cnam
 use Rattle.token_laws.specs.Tokens as kw
 use Rattle.grammar_laws.specs.Trees as tree
 use Rattle.grammar_laws.specs.Grammar.{IsAnyId, IsAnnotationName}
-use Rattle.rnc_parser.specs.Expecting.{Part, pass, refuse, first, next, type_move, end_move, is_assign, Stands, Sticks}
+use Rattle.syntax_laws.specs.Expecting.{Part, pass, refuse, first, next, type_move, end_move, is_assign, Stands, Sticks}
 use Rattle.rnc_parser.specs.Trees.{type_of, method_of}
 use Rattle.rnc_parser.specs.declared.stop.Stop.{Stop}
 use Rattle.rnc_parser.specs.declared.tree.TypeName.{TypeName}

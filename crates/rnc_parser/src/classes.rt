@@ -1,19 +1,19 @@
 ghost use Rattle.std.specs.Prelude.{◌≡◌, ◌<◌, ◌≤◌, true, [], ◌∷◌, length, OnOk};
 ghost use Rattle.grammar_laws.specs.Grammar.{ReadsClass, ReadsSimple, ReadsBareClass};
 ghost use Rattle.token_laws.specs.Tokens as kw;
-ghost use Rattle.rnc_parser.specs.Expecting as part;
+ghost use Rattle.syntax_laws.specs.Expecting as part;
 ghost use Rattle.rnc_parser.specs.Reading.{Parsed};
 ghost use Rattle.rnc_parser.specs.Parts.{ReadsOpenClass, ReadsClassOperand};
 ghost use Rattle.rnc_parser.specs.Trees.{class_of};
 
 use crate::annotations::{blocks, follow};
 use crate::cursor::Cursor;
-use crate::forms::ClassForm;
 use crate::stop::Stop;
 use crate::tree::Class;
 use rnc_lexer::Symbol;
 use sqlite_items::{Boxed, Items};
 use std::alloc::Global;
+use syntax_laws::ClassForm;
 
 /// Reads a name class.
 #[cycle(class)]

@@ -1,17 +1,17 @@
 ghost use Rattle.std.specs.Prelude.{◌≡◌, ◌+◌, ◌<◌, ◌^◌, length, Some, string_bytes};
 ghost use Rattle.token_laws.specs.Tokens as model;
 ghost use Rattle.rnc_lexer.specs.Views.{symbol_of, keyword_of, token_of};
-ghost use Rattle.rnc_parser.specs.Expecting.{first, is_word, is_segment, is_name, begins_parameter, begins_declaration, begins_item, is_assign, pattern_form, class_form, item_form, declaration_form};
-ghost use Rattle.rnc_parser.specs.Expecting as part;
+ghost use Rattle.syntax_laws.specs.Expecting.{first, is_word, is_segment, is_name, begins_parameter, begins_declaration, begins_item, is_assign, pattern_form, class_form, item_form, declaration_form};
+ghost use Rattle.syntax_laws.specs.Expecting as part;
 ghost use Rattle.rnc_parser.specs.Reading.{Is, Eats, Takes, InBlock, AtEnd, IsTypeToken, IsMethodToken, IsSign, IsKeyword, IsName, IsPlainName, IsPrefixedName, IsNamespaceName, IsBeforeBlock, IsSegment, IsTypeName, IsMethod};
 
-use crate::forms::{ClassForm, DeclarationForm, ItemForm, PatternForm};
 use crate::names::keyword_name;
 use crate::stop::Stop;
 use crate::tree::{Method, TypeName};
 use rnc_lexer::{Keyword, Lexed, Symbol, Token, Tokens};
 use std::alloc::Global;
 use std::marker::Model;
+use syntax_laws::{ClassForm, DeclarationForm, ItemForm, PatternForm};
 use text_atoms::Text;
 
 /// The tokens of a text that are still to be read.

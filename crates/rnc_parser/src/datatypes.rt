@@ -1,6 +1,6 @@
 ghost use Rattle.std.specs.Prelude.{◌≡◌, ◌<◌, ◌≤◌, [], ◌∷◌, length, map, option_map, OnOk};
 ghost use Rattle.grammar_laws.specs.Grammar.{ReadsParameters, ReadsBraces, ReadsInherit};
-ghost use Rattle.rnc_parser.specs.Expecting as part;
+ghost use Rattle.syntax_laws.specs.Expecting as part;
 ghost use Rattle.rnc_parser.specs.Reading.{Parsed};
 ghost use Rattle.rnc_parser.specs.Parts.{ReadsParameter};
 ghost use Rattle.rnc_parser.specs.Trees.{parameter_of, passed_of};

@@ -6,7 +6,6 @@ mod annotations;
 mod classes;
 mod cursor;
 mod datatypes;
-mod forms;
 mod literals;
 mod names;
 mod patterns;

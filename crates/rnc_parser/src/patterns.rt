@@ -3,7 +3,7 @@ ghost use Rattle.grammar_laws.specs.Grammar.{ReadsBare, ReadsPattern, ReadsParti
 ghost use Rattle.grammar_laws.specs.Trees.{items_of};
 ghost use Rattle.token_laws.specs.Tokens as kw;
 ghost use Rattle.rnc_lexer.specs.Views.{symbol_of};
-ghost use Rattle.rnc_parser.specs.Expecting as part;
+ghost use Rattle.syntax_laws.specs.Expecting as part;
 ghost use Rattle.rnc_parser.specs.Reading.{Parsed};
 ghost use Rattle.rnc_parser.specs.Parts.{ReadsOpen, ReadsOperand, ReadsBraced, BehindType, BehindPrimary, BehindParticle, BehindPostfix, BehindConnector, ReadsMore, ReadsOneItem, ReadsNext, ReadsMoreItems, AreInner};
 ghost use Rattle.rnc_parser.specs.Trees.{pattern_of, item_of, type_of};
@@ -12,13 +12,13 @@ use crate::annotations::{block, blocks, follow};
 use crate::classes::class;
 use crate::cursor::Cursor;
 use crate::datatypes::{braces, passed};
-use crate::forms::{ItemForm, PatternForm};
 use crate::literals::literal;
 use crate::stop::Stop;
 use crate::tree::{Item, Pattern, TypeName};
 use rnc_lexer::{Keyword, Symbol};
 use sqlite_items::{Boxed, Items};
 use std::alloc::Global;
+use syntax_laws::{ItemForm, PatternForm};
 
 /// Reads a pattern.
 #[cycle(pattern)]

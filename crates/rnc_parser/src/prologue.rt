@@ -1,19 +1,19 @@
 ghost use Rattle.std.specs.Prelude.{◌≡◌, ◌<◌, ◌≤◌, [], ◌∷◌, length, map, OnOk};
 ghost use Rattle.grammar_laws.specs.Grammar.{ReadsDeclaration, ReadsDeclarations};
 ghost use Rattle.token_laws.specs.Tokens as kw;
-ghost use Rattle.rnc_parser.specs.Expecting as part;
+ghost use Rattle.syntax_laws.specs.Expecting as part;
 ghost use Rattle.rnc_parser.specs.Reading.{Parsed};
 ghost use Rattle.rnc_parser.specs.Parts.{ReadsPrefix};
 ghost use Rattle.rnc_parser.specs.Trees.{declaration_of};
 
 use crate::cursor::Cursor;
-use crate::forms::DeclarationForm;
 use crate::literals::{literal, uri};
 use crate::stop::Stop;
 use crate::tree::Declaration;
 use rnc_lexer::{Keyword, Symbol};
 use sqlite_items::Items;
 use std::alloc::Global;
+use syntax_laws::DeclarationForm;
 use text_atoms::Text;
 
 /// Reads the declarations at the head of a schema.

@@ -1,13 +1,12 @@
 ghost use Rattle.std.specs.Prelude.{◌≡◌, false, true, [], ◌∷◌, map};
 ghost use Rattle.grammar_laws.specs.Grammar.{Derives};
-ghost use Rattle.rnc_parser.specs.Expecting as part;
+ghost use Rattle.syntax_laws.specs.Expecting as part;
 ghost use Rattle.rnc_parser.specs.Reading.{Parsed};
 ghost use Rattle.rnc_parser.specs.Parts.{ReadsBody, BehindName, BehindBlocks, BehindBare, DerivesFile};
 ghost use Rattle.rnc_parser.specs.Trees.{pattern_of, body_of, declaration_of};
 
 use crate::annotations::{block, blocks, follow};
 use crate::cursor::Cursor;
-use crate::forms::ItemForm;
 use crate::patterns::{bare, item, items, more_patterns, pattern, postfix, typed};
 use crate::prologue::declarations;
 use crate::stop::Stop;
@@ -15,6 +14,7 @@ use crate::tree::{Body, Declaration, Item, Pattern, TypeName};
 use rnc_lexer::Symbol;
 use sqlite_items::Items;
 use std::alloc::Global;
+use syntax_laws::ItemForm;
 use text_atoms::Text;
 
 /// The declarations and the body of one file.

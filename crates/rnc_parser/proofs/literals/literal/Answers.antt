@@ -1,6 +1,6 @@
 use Rattle.std.proofs.Common.{[], ◌∷◌, Ok, refl, sym, ap, subst, arith, length}
-use Rattle.rnc_parser.specs.Expecting.{next, first, Stands, is_symbol, declaration_move, class_move, pattern_move, item_move, next_item_move}
-use Rattle.rnc_parser.specs.Expecting as part
+use Rattle.syntax_laws.specs.Expecting.{next, first, Stands, is_symbol, declaration_move, class_move, pattern_move, item_move, next_item_move}
+use Rattle.syntax_laws.specs.Expecting as part
 use Rattle.rnc_parser.specs.Reading.{Parsed}
 use Rattle.rnc_parser.proofs.Steps.{turn, missing, passed_on}
 use Rattle.std.specs.Prelude.{string_bytes}

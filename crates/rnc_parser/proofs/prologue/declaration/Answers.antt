@@ -1,5 +1,5 @@
 use Rattle.std.proofs.Common.{sym, ap}
-use Rattle.rnc_parser.specs.Expecting.{declaration_move}
+use Rattle.syntax_laws.specs.Expecting.{declaration_move}
 use Rattle.rnc_parser.specs.Reading.{failed}
 use Rattle.rnc_parser.proofs.Steps.{begin, stuck, instead}
 use Rattle.rnc_parser.proofs.prologue.declaration.Goals as goal

@@ -1,5 +1,5 @@
 use Rattle.std.proofs.Common.{sym, ap}
-use Rattle.rnc_parser.specs.Expecting as part
+use Rattle.syntax_laws.specs.Expecting as part
 use Rattle.rnc_parser.proofs.Steps.{begin, turn, read, inside, passed_on, at_rest, made}
 use Rattle.rnc_parser.proofs.schema.annotated_body.Goals as goal
 

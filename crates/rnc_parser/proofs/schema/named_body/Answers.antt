@@ -2,7 +2,7 @@ use Rattle.std.proofs.Common.{false, sym, ap, ◌∙◌}
 use Rattle.token_laws.specs.Tokens as kw
 use Rattle.grammar_laws.specs.Grammar as by
 use Rattle.grammar_laws.specs.Grammar.{ReadsItem, DerivesBody}
-use Rattle.rnc_parser.specs.Expecting as part
+use Rattle.syntax_laws.specs.Expecting as part
 use Rattle.rnc_parser.specs.Reading.{parsed}
 use Rattle.rnc_parser.proofs.Steps as step
 use Rattle.rnc_parser.proofs.Steps.{begin, turn, read, took, inside, missing, passed_on, instead, at_rest, at_last, made}

@@ -3,10 +3,10 @@ use Rattle.std.specs.Prelude.{◌≡◌, ℕ, Bool, true, false, if◌then◌els
 use Rattle.token_laws.specs.Tokens.{Keyword, Symbol, Token, keyword, ident, cname, ns_name, segment, symbol, Placed, ◌at◌}
 use Rattle.token_laws.specs.Tokens.{open_brace, close_brace, open_paren, close_paren, open_bracket, close_bracket, equals, bar_equals, ampersand_equals, comma, ampersand, bar, question, star, plus, minus, tilde, follows}
 use Rattle.token_laws.specs.Tokens as kw
-use Rattle.rnc_parser.specs.declared.forms.PatternForm.{PatternForm}
-use Rattle.rnc_parser.specs.declared.forms.ClassForm.{ClassForm}
-use Rattle.rnc_parser.specs.declared.forms.ItemForm.{ItemForm}
-use Rattle.rnc_parser.specs.declared.forms.DeclarationForm.{DeclarationForm}
+use Rattle.syntax_laws.specs.declared.forms.PatternForm.{PatternForm}
+use Rattle.syntax_laws.specs.declared.forms.ClassForm.{ClassForm}
+use Rattle.syntax_laws.specs.declared.forms.ItemForm.{ItemForm}
+use Rattle.syntax_laws.specs.declared.forms.DeclarationForm.{DeclarationForm}
 
 abbrev pub first : List Placed → Option Token
 first [] = None
