@@ -1,0 +1,3 @@
+pub mod SoundMeanings
+pub mod SoundTokens
+pub mod SoundParts
