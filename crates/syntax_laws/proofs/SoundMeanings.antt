@@ -2,7 +2,7 @@
 use Rattle.std.specs.Prelude.{ℕ, Bool, true, false, List, [], ◌∷◌, Option, Some, None, ⊤}
 use Rattle.rng_model.specs.Texts.{Text}
 use Rattle.token_laws.specs.Tokens.{Keyword, Symbol, Token, keyword, ident, cname, ns_name, segment, symbol, Placed, ◌at◌, star, equals}
-use Rattle.grammar_laws.specs.Trees.{Uri, Declaration, TypeName, Parameter, Passed, Method, Class, Classes, Pattern, Patterns, Item, Items}
+use Rattle.grammar_laws.specs.Trees.{Uri, Declaration, TypeName, Parameter, Passed, Method, Class, Pattern, Patterns, Item, Items}
 use Rattle.grammar_laws.specs.Grammar.{IsAnyId, IsAnnotationName, IsAssign, IsType, ReadsLiteral, ReadsFilling, ReadsBlock, ReadsBlocks, ReadsFollow, ReadsUri, ReadsDeclaration, ReadsDeclarations, ReadsClass, ReadsSimple, ReadsBareClass, ReadsParameters, ReadsBraces, ReadsInherit, ReadsPattern, ReadsMembers, ReadsParticle, ReadsPrimary, ReadsBare, ReadsItems, ReadsItem, ReadsInner, HasNoInclude, IsInner}
 use Rattle.syntax_laws.specs.Expecting.{Part, Move, pass, become, refuse}
 use Rattle.syntax_laws.specs.Expecting as part

@@ -1,5 +1,5 @@
 -- What stands for a part in the reader's table is that part, whatever token is next.
-use Rattle.std.proofs.Common.{ℕ, Bool, true, false, List, [], ◌∷◌, ◌++◌, Option, Some, None, refl}
+use Rattle.std.proofs.Common.{ℕ, Bool, true, false, List, [], ◌∷◌, ◌++◌, Option, refl}
 use Rattle.rng_model.specs.Texts.{Text}
 use Rattle.token_laws.specs.Tokens.{Keyword, Symbol, Token, keyword, ident, cname, ns_name, segment, symbol, Placed, ◌at◌}
 use Rattle.token_laws.specs.Tokens.{open_brace, close_brace, open_paren, close_paren, open_bracket, close_bracket, equals, bar_equals, ampersand_equals, comma, ampersand, bar, question, star, plus, minus, tilde, follows}
@@ -9,13 +9,8 @@ use Rattle.grammar_laws.specs.Grammar.{IsNoBracket, IsConnector, IsPostfix, IsTy
 use Rattle.grammar_laws.specs.Grammar as by
 use Rattle.syntax_laws.specs.Expecting.{Part, Move, pass, become, refuse, next, is_symbol, is_word, is_assign}
 use Rattle.syntax_laws.specs.Expecting as part
-use Rattle.syntax_laws.specs.declared.forms.PatternForm.{PatternForm}
-use Rattle.syntax_laws.specs.declared.forms.ClassForm.{ClassForm}
-use Rattle.syntax_laws.specs.declared.forms.ItemForm.{ItemForm}
-use Rattle.syntax_laws.specs.declared.forms.DeclarationForm.{DeclarationForm}
 use Rattle.syntax_laws.proofs.SoundMeanings.{Means, AllMean, done, also, IsSound, ReadsSign, ReadsWord, ReadsName, ReadsPlainName, ReadsPrefixedName, ReadsNamespaceName, ReadsAnnotationName, ReadsSegment, ReadsTypeName, ReadsAssign, ReadsNothing, ReadsDefaultPrefix, ReadsBraced, ReadsParameter, BehindSegment, BehindSimple, IsBareClass, BehindAny, BehindParticle, BehindMember, BehindPrimary, IsBare, BehindType, BehindBraces, AreInner, IsInnerItem, AreItems, IsNextItem, BehindItemName, ReadsBody, BehindFirstName, BehindFirstType, BehindFirstBlocks, BehindAnnotatedName}
 use Rattle.syntax_laws.proofs.SoundMeanings as read
-use Rattle.syntax_laws.proofs.SoundTokens.{by_symbol, by_keyword}
 
 -- parts of one token, passed
 pub sign_passed : {s : Symbol} {a : ℕ} {ts us : List Placed} → AllMean [] ts us → ReadsSign s (symbol s at a ∷ ts) us
@@ -276,7 +271,7 @@ inner_item : (i : Bool) (it : Item) → IsInner it → IsInnerItem i it
 inner_item false it h = tt
 inner_item true it h = h
 
-inner_div : (i : Bool) (is : Items) → AreInner i is → IsInnerItem i (Item.div is)
+pub inner_div : (i : Bool) (is : Items) → AreInner i is → IsInnerItem i (Item.div is)
 inner_div false is h = tt
 inner_div true is h = h
 
@@ -378,4 +373,3 @@ annotated_define_read (also (read.assign s) (also (p, r) (also m done))) start n
 
 pub annotated_reference_read : {ts us : List Placed} → AllMean (part.follow ∷ part.postfix ∷ part.more_patterns ∷ []) ts us → BehindAnnotatedName ts us
 annotated_reference_read (also f (also m (also o done))) start n a b = whole_pattern (by.primary b by.ref f) m o
-

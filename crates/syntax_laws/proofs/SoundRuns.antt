@@ -1,11 +1,12 @@
 -- What the reader has passed, with whatever the parts left stand for behind it, is what it set out to read.
-use Rattle.std.proofs.Common.{◌≡◌, List, [], ◌∷◌, ◌++◌, Some, refl, sym, ap, ◌∙◌, subst}
+use Rattle.std.proofs.Common.{◌≡◌, List, [], ◌∷◌, ◌++◌, length, take, Some, refl, sym, ap, ◌∙◌, subst}
+use Rattle.std.proofs.Math.Seq.{take-append_seam}
 use Rattle.std.proofs.lemmas.List.{append_cancel_right}
 use Rattle.token_laws.specs.Tokens.{Placed, ◌at◌}
 use Rattle.grammar_laws.specs.Trees.{Body, File}
 use Rattle.grammar_laws.specs.Grammar.{ReadsPattern, ReadsItems, Derives, DerivesBody, Begins}
 use Rattle.grammar_laws.specs.Grammar as by
-use Rattle.syntax_laws.specs.Expecting.{Part, first, next, declarations, body, end, Runs, stay, passes, becomes, Stands}
+use Rattle.syntax_laws.specs.Expecting.{Part, first, declarations, body, end, Runs, stay, passes, becomes, Stands}
 use Rattle.syntax_laws.proofs.SoundMeanings.{ReadsBody, AllMean, done, also, IsSound}
 use Rattle.syntax_laws.proofs.SoundMeanings as read
 use Rattle.syntax_laws.proofs.SoundRows.{sound}
@@ -43,3 +44,10 @@ begins before us ys s =
     let w = all_short (ys ++ []) in
     let f = whole_file (c.2 w.0 [] w.1) refl in
     subst Begins (sym (append_cancel_right before c.0 us c.1)) (w.0, f.0, f.1)
+
+-- the same by the number of the tokens, as the law of a syntax error's place wants it
+pub front_begins : (ts us : List Placed) (ys : List Part) → Stands (declarations ∷ body ∷ end ∷ []) ts ys us → (before : List Placed) × (ts ≡ before ++ us) × Begins (take (length before) ts)
+front_begins ts us ys s =
+    let c = run_completes (s.runs []) in
+    let b = begins c.0 us ys (subst (λ z. Stands (declarations ∷ body ∷ end ∷ []) z ys us) c.1 s) in
+    (c.0, c.1, subst Begins (sym (ap (take (length c.0)) c.1 ∙ take-append_seam c.0 us)) b)
