@@ -17,7 +17,8 @@ use Rattle.simple_form_laws.specs.Parts.{Scope, Part, part, parts_of_list}
 use Rattle.simple_form_laws.specs.Meaning.{Means, Connected, Behind, Group}
 use Rattle.simple_form_laws.specs.Meaning as by
 use Rattle.simple_form_laws.specs.Forms.{element_places, token_number, numbered_list, ElementToken, token_of, tokens, tokens_of, new_number, renumbered, IsReached, from_start, IsDefinition, AreDefinitions, IsForm, IsFormOf}
-use Rattle.simple_form_laws.specs.Faults.{parts, element_class, attribute_class, unbound_in_class, unbound_in_type, unbound_prefixes, prefixes_twice, reserved_prefixes, type_of, constraint_places, class_constraints, xmlns_in_class, xmlns_attributes, lacks_start, has_no_start, undefined_in, undefined_names, parent_in, parents_outside, clashes, are_mixed, are_plain, combine_mixed, defined_twice, bad_value_in, bad_values, leads, each_part, inside, IsVisited, whole, lead, content, IsReferenceAt, IsSimplifiablePart, IsSimplifiable, depth, class_depth, IsTooDeep, Simple, Fault, fault_number, HasFault, IsNoLater, SimplifyRefusal, UnboundPrefix, PrefixTwice, ReservedPrefix, ClassConstraint, XmlnsAttribute, NoStart, UndefinedName, ParentOutside, CombineMixed, DefinedTwice, Loop, ExpandedTooDeep, BadValue}
+use Rattle.rng_model.specs.Depths.{depth, class_depth}
+use Rattle.simple_form_laws.specs.Faults.{parts, element_class, attribute_class, unbound_in_class, unbound_in_type, unbound_prefixes, prefixes_twice, reserved_prefixes, type_of, constraint_places, class_constraints, xmlns_in_class, xmlns_attributes, lacks_start, has_no_start, undefined_in, undefined_names, parent_in, parents_outside, clashes, are_mixed, are_plain, combine_mixed, defined_twice, bad_value_in, bad_values, leads, each_part, inside, IsVisited, whole, lead, content, IsReferenceAt, IsSimplifiablePart, IsSimplifiable, IsTooDeep, Simple, Fault, fault_number, HasFault, IsNoLater, SimplifyRefusal, UnboundPrefix, PrefixTwice, ReservedPrefix, ClassConstraint, XmlnsAttribute, NoStart, UndefinedName, ParentOutside, CombineMixed, DefinedTwice, Loop, ExpandedTooDeep, BadValue}
 use Rattle.simple_form_laws.specs.Examples.{elements_at, joined_elements}
 use Rattle.simple_form_laws.proofs.Loops.{no_reference}
 use Rattle.simple_form_laws.proofs.OneMeaning.{means-same, found}

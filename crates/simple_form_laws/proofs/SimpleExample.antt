@@ -7,7 +7,8 @@ use Rattle.derivative_laws.proofs.Members.{IsIn, is_in}
 use Rattle.grammar_laws.specs.Trees.{Pattern}
 use Rattle.grammar_laws.specs.Trees as full
 use Rattle.simple_form_laws.specs.Parts.{Part, part}
-use Rattle.simple_form_laws.specs.Faults.{Fault, UnboundPrefix, PrefixTwice, ReservedPrefix, ClassConstraint, XmlnsAttribute, NoStart, UndefinedName, ParentOutside, CombineMixed, DefinedTwice, Loop, ExpandedTooDeep, BadValue, HasFault, Simple, IsLoop, IsTooDeep, depth, class_depth, unbound_prefixes, prefixes_twice, reserved_prefixes, class_constraints, xmlns_attributes, undefined_names, parents_outside, combine_mixed, defined_twice, bad_values}
+use Rattle.rng_model.specs.Depths.{depth, class_depth}
+use Rattle.simple_form_laws.specs.Faults.{Fault, UnboundPrefix, PrefixTwice, ReservedPrefix, ClassConstraint, XmlnsAttribute, NoStart, UndefinedName, ParentOutside, CombineMixed, DefinedTwice, Loop, ExpandedTooDeep, BadValue, HasFault, Simple, IsLoop, IsTooDeep, unbound_prefixes, prefixes_twice, reserved_prefixes, class_constraints, xmlns_attributes, undefined_names, parents_outside, combine_mixed, defined_twice, bad_values}
 use Rattle.simple_form_laws.specs.Examples.{defined_as, mixed_content, mixed_schema}
 use Rattle.simple_form_laws.proofs.Loops.{loop_in, no_reference}
 use Rattle.simple_form_laws.proofs.OneForm.{schema-same}

@@ -13,7 +13,8 @@ use Rattle.grammar_laws.specs.Trees as full
 use Rattle.simple_form_laws.specs.Parts.{Part, part}
 use Rattle.simple_form_laws.specs.Meaning as by
 use Rattle.simple_form_laws.specs.Forms.{HasRef, IsReached, from_start, IsFormOf}
-use Rattle.simple_form_laws.specs.Faults.{Fault, UnboundPrefix, PrefixTwice, ReservedPrefix, ClassConstraint, XmlnsAttribute, NoStart, UndefinedName, ParentOutside, CombineMixed, DefinedTwice, Loop, ExpandedTooDeep, BadValue, HasFault, IsNoLater, SimplifyRefusal, IsLoop, IsTooDeep, depth, class_depth, unbound_prefixes, prefixes_twice, reserved_prefixes, class_constraints, xmlns_attributes, undefined_names, parents_outside, combine_mixed, defined_twice, bad_values}
+use Rattle.rng_model.specs.Depths.{depth, class_depth}
+use Rattle.simple_form_laws.specs.Faults.{Fault, UnboundPrefix, PrefixTwice, ReservedPrefix, ClassConstraint, XmlnsAttribute, NoStart, UndefinedName, ParentOutside, CombineMixed, DefinedTwice, Loop, ExpandedTooDeep, BadValue, HasFault, IsNoLater, SimplifyRefusal, IsLoop, IsTooDeep, unbound_prefixes, prefixes_twice, reserved_prefixes, class_constraints, xmlns_attributes, undefined_names, parents_outside, combine_mixed, defined_twice, bad_values}
 use Rattle.simple_form_laws.specs.Examples.{defined_as, zero_value, zero_schema}
 use Rattle.simple_form_laws.proofs.Reached.{reached_in}
 use Rattle.simple_form_laws.proofs.Loops.{loop_in, no_reference}

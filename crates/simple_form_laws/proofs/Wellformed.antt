@@ -14,7 +14,7 @@ use Rattle.simple_form_laws.specs.Parts.{Scope}
 use Rattle.simple_form_laws.specs.Meaning.{Means, Connected, Behind, Connective, Group, Choice, Interleave, connect}
 use Rattle.simple_form_laws.specs.Meaning as by
 use Rattle.simple_form_laws.specs.Forms.{tree, HasRef, IsReached, from_start, from_content, new_number, renumbered, IsForm, IsDefinition, AreDefinitions, IsFormOf}
-use Rattle.simple_form_laws.specs.Faults.{depth, in_choice}
+use Rattle.rng_model.specs.Depths.{depth, in_choice}
 use Rattle.simple_form_laws.proofs.Kept.{in_its_place}
 
 after_all : IsAll_of HasNoAfter

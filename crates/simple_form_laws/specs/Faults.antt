@@ -1,11 +1,10 @@
 -- The faults of simplification: the sections Simplification and Restrictions (name classes, attribute names) of the standard; their numbers and places are this project's own.
-use Rattle.std.specs.Prelude.{◌≡◌, ℕ, suc, ◌+◌, ◌<◌, ◌≤◌, ◌⊎◌, max, Bool, true, false, not, ◌&&◌, ◌||◌, if◌then◌else◌, List, [], ◌∷◌, ◌++◌, Option, Some, None, filter_map, flat_map, codes, Contains, IsTrue, ⊤}
+use Rattle.std.specs.Prelude.{◌≡◌, ℕ, suc, ◌+◌, ◌<◌, ◌≤◌, ◌⊎◌, Bool, true, false, not, ◌&&◌, ◌||◌, if◌then◌else◌, List, [], ◌∷◌, ◌++◌, Option, Some, None, filter_map, flat_map, codes, Contains, IsTrue, ⊤}
 use Rattle.std.specs.List.{list_any}
 use Rattle.std.specs.Str.{bytes_eq}
 use Rattle.rng_model.specs.Texts.{Text}
 use Rattle.rng_model.specs.Kinds.{Kind, allows}
 use Rattle.rng_model.specs.Classes as class
-use Rattle.rng_model.specs.Patterns as simple
 use Rattle.rng_model.specs.Patterns.{Schema, Definition, Defines}
 use Rattle.rng_model.specs.Universe.{IsElementClass, IsAttributeClass}
 use Rattle.rng_model.specs.Depths.{depth, class_depth}
