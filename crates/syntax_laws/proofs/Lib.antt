@@ -4,3 +4,4 @@ pub mod SoundParts
 pub mod SoundRows
 pub mod Short
 pub mod SoundRuns
+pub mod Local
