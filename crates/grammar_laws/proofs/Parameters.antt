@@ -108,7 +108,7 @@ id_no_tilde (ns_name p) a ts n i = zero-le
 id_no_tilde (segment s) a ts n i = zero-le
 id_no_tilde (symbol s) a ts n i = elim i [ ]
 
-parameters_no_tilde : {ts us : List Placed} {ps : List Parameter} → ReadsParameters ts us ps → IsClosed us → Stops tilde_rank 0 ts
+pub parameters_no_tilde : {ts us : List Placed} {ps : List Parameter} → ReadsParameters ts us ps → IsClosed us → Stops tilde_rank 0 ts
 parameters_no_tilde (by.ReadsParameters.none {ts = ts}) e = closed_no_tilde ts e
 parameters_no_tilde (by.ReadsParameters.more {t = t} {n = n} {a = a} {b = c} {us = us} b i l r) e = blocks_no_tilde b (id_no_tilde t a (symbol equals at c ∷ us) n i)
 

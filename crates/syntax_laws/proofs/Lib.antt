@@ -5,3 +5,5 @@ pub mod SoundRows
 pub mod Short
 pub mod SoundRuns
 pub mod Local
+pub mod Stops
+pub mod ReadsLeaves
