@@ -55,7 +55,7 @@ bare_no_bracket (by.ReadsBareClass.parentheses c) = zero-le
 bare_no_bracket by.any = zero-le
 bare_no_bracket by.namespace = zero-le
 
-except_no_bracket : {ts us : List Placed} {c : Class} → ReadsClassExcept ts us c → Stops bracket_rank 0 ts
+pub except_no_bracket : {ts us : List Placed} {c : Class} → ReadsClassExcept ts us c → Stops bracket_rank 0 ts
 except_no_bracket (by.any_except b c) = zero-le
 except_no_bracket (by.namespace_except b c) = zero-le
 
@@ -130,7 +130,7 @@ simple_meaning : {ts us : List Placed} {c : Class} → ReadsSimple ts us c → S
 simple_meaning (by.simple b c f) = (_, _, b, inl c, f)
 simple_meaning (by.ReadsSimple.except b c f) = (_, _, b, inr c, f)
 
-inner_end : {ts us : List Placed} → ReadsFollow ts us → End 2 us → End 3 ts
+pub inner_end : {ts us : List Placed} → ReadsFollow ts us → End 2 us → End 3 ts
 inner_end {us = us} f e = before_follow class_rank (le_refl 3) f (up class_rank 2 us e)
 
 one_simple : {ts us vs ws : List Placed} {c : Class} → ReadsBlocks ts us → ReadsBareClass us vs c → Only ReadsBareClass (End 3) us vs c → ReadsFollow vs ws → End 2 ws →
@@ -176,10 +176,10 @@ alternatives_meaning : {ts us : List Placed} {cs : Classes} → ReadsAlternative
 alternatives_meaning (by.ReadsAlternatives.last s) = inl (_, s, refl)
 alternatives_meaning (by.ReadsAlternatives.more s r) = inr (_, _, _, _, s, r, refl)
 
-bar_end : 1 ≤ 2
+pub bar_end : 1 ≤ 2
 bar_end = omega arith
 
-last_end : (ts : List Placed) → End 0 ts → End 2 ts
+pub last_end : (ts : List Placed) → End 0 ts → End 2 ts
 last_end ts e = up class_rank 1 ts (up class_rank 0 ts e)
 
 not_bar : {a : ℕ} {ts us : List Placed} → us ≡ symbol bar at a ∷ ts → End 0 us → ⊥

@@ -7,3 +7,5 @@ pub mod SoundRuns
 pub mod Local
 pub mod Stops
 pub mod ReadsLeaves
+pub mod ReadsClasses
+pub mod ReadsPatterns
