@@ -110,6 +110,9 @@ part (y ∷ ys) xs (becomes {xs = zs} n r) e = turned (head_same e) n (part (zs 
 pub joins : {x : Part} {xs : List Part} {ts us vs : List Placed} → Stands (x ∷ []) ts [] us → Stands xs us [] vs → Stands (x ∷ xs) ts [] vs
 joins {xs = xs} s r = record { runs = λ rest. run_on (s.runs (xs ++ rest)) (r.runs rest) }
 
+pub joins_all : {xs ys : List Part} {ts us vs : List Placed} → Stands xs ts [] us → Stands ys us [] vs → Stands (xs ++ ys) ts [] vs
+joins_all {xs = xs} {ys = ys} {ts = ts} {vs = vs} s r = record { runs = λ rest. subst (λ z. Runs z ts rest vs) (sym (append_assoc xs ys rest)) (run_on (s.runs (ys ++ rest)) (r.runs rest)) }
+
 -- what runs to the end does so whatever stands behind
 pub stands_to_end : {xs : List Part} {ts us : List Placed} → Runs xs ts [] us → Stands xs ts [] us
 stands_to_end {xs = xs} {ts = ts} {us = us} r = go (part xs [] r (sym (append-nil xs)))
