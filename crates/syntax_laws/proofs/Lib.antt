@@ -9,3 +9,4 @@ pub mod Stops
 pub mod ReadsLeaves
 pub mod ReadsClasses
 pub mod ReadsPatterns
+pub mod ReadsFiles

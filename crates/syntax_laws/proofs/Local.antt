@@ -72,6 +72,11 @@ no_end (passes {x = x} {rest = rest} {t = t} {a = a} {ts = ts} e r) h (p ∷ bef
 no_end (becomes {x = x} {xs = xs} {rest = rest} {ts = ts} e r) h before vs ws same agree s =
     no_end r h before vs ws same agree (subst (λ m. GoesBy m rest vs ws) (ap (next x) (first_alike (length before) ts vs agree) ∙ e) (ended s))
 
+-- the same where more parts stand behind
+pub refused_rest : (ys : List Part) (us : List Placed) → IsRefused ys us → IsRefused (ys ++ []) us
+refused_rest [] us h = h
+refused_rest (y ∷ ys) us h = h
+
 -- A run to the end reads the first parts, whatever stands behind them, and then the others.
 pub data Parted (ys xs : List Part) (ts us : List Placed) : Type 0 where
   parted : {vs : List Placed} → Stands ys ts [] vs → Runs xs vs [] us → Parted ys xs ts us

@@ -1,8 +1,8 @@
 -- What the grammar derives is read: blocks, literals, declarations, parameters and what may stand behind them.
-use Rattle.std.proofs.Common.{◌≡◌, ℕ, zero-le, ◌≤◌, Bool, List, [], ◌∷◌, Some, refl, sym, subst, arith}
+use Rattle.std.proofs.Common.{◌≡◌, ℕ, List, [], ◌∷◌, refl, sym, subst}
 use Rattle.rng_model.specs.Texts.{Text}
-use Rattle.token_laws.specs.Tokens.{Token, symbol, Placed, ◌at◌, equals, open_bracket}
-use Rattle.grammar_laws.specs.Trees.{Uri, Declaration, Parameter, Passed, TypeName}
+use Rattle.token_laws.specs.Tokens.{Token, symbol, Placed, ◌at◌, equals}
+use Rattle.grammar_laws.specs.Trees.{Uri, Declaration, Parameter}
 use Rattle.grammar_laws.specs.Grammar.{ReadsLiteral, IsAnyId, ReadsFilling, ReadsBlock, ReadsBlocks, ReadsFollow, ReadsUri, ReadsDeclaration, ReadsDeclarations, ReadsParameters, ReadsBraces, ReadsInherit}
 use Rattle.grammar_laws.specs.Grammar as by
 use Rattle.grammar_laws.proofs.Ends.{Stops, tilde_rank, bracket_rank, brace_rank, inherit_rank, follows_rank}

@@ -1,16 +1,16 @@
 -- What the grammar derives is read: patterns and items.
-use Rattle.std.proofs.Common.{◌≡◌, ℕ, zero-le, le_refl, ◌≤◌, Option, Bool, true, false, List, [], ◌∷◌, Some, refl, sym, subst, arith}
+use Rattle.std.proofs.Common.{ℕ, zero-le, le_refl, Option, Bool, true, false, List, [], ◌∷◌, refl}
 use Rattle.std.specs.Prelude.{⊤}
 use Rattle.rng_model.specs.Texts.{Text}
 use Rattle.token_laws.specs.Tokens.{Symbol, Token, keyword, ident, cname, ns_name, segment, symbol, Placed, ◌at◌, open_brace, close_brace, close_paren, minus}
 use Rattle.token_laws.specs.Tokens as word
-use Rattle.grammar_laws.specs.Trees.{TypeName, Parameter, Passed, Method, Class, Pattern, Patterns, Item, Items}
+use Rattle.grammar_laws.specs.Trees.{Parameter, Passed, Pattern, Patterns, Item, Items}
 use Rattle.grammar_laws.specs.Grammar.{ReadsLiteral, ReadsBlock, ReadsBlocks, ReadsFollow, ReadsBraces, ReadsInherit, ReadsClass, IsItemName, IsType, IsConnector, IsPostfix, IsAssign, ReadsPattern, ReadsMembers, ReadsParticle, ReadsPrimary, ReadsBare, ReadsItems, ReadsItem, ReadsInner, HasNoInclude, IsInner}
 use Rattle.grammar_laws.specs.Grammar as by
 use Rattle.grammar_laws.proofs.Ends.{Stops, rank, brace_rank, up, no_tilde, no_brace, no_inherit, no_follows}
 use Rattle.grammar_laws.proofs.Parameters.{IsClosed}
 use Rattle.grammar_laws.proofs.Patterns.{End, bare_no_bracket, type_no_bracket, inner_end, inherit_no_tilde}
-use Rattle.grammar_laws.proofs.Items.{postfix_end, connector_end, before_items, item_no_bracket, inner_no_tilde, inner_no_inherit, end_3, end_4}
+use Rattle.grammar_laws.proofs.Items.{postfix_end, connector_end, before_items, item_no_bracket, inner_no_tilde, inner_no_inherit, end_4}
 use Rattle.syntax_laws.specs.Expecting.{Part, become, first, next, Stands}
 use Rattle.syntax_laws.specs.Expecting as part
 use Rattle.syntax_laws.proofs.Local.{ended, turns, takes, no_parts, joins, joins_all, stands_to_end}
