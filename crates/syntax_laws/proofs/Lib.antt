@@ -10,3 +10,4 @@ pub mod ReadsLeaves
 pub mod ReadsClasses
 pub mod ReadsPatterns
 pub mod ReadsFiles
+pub mod LocalPlaces

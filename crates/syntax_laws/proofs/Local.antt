@@ -106,11 +106,11 @@ turned {zs = zs} {ts = ts} e n (parted s r) = parted (turns (subst (λ x. next x
 again : (zs ys xs : List Part) {x y : Part} {rest : List Part} → x ∷ rest ≡ y ∷ (ys ++ xs) → zs ++ rest ≡ (zs ++ ys) ++ xs
 again zs ys xs e = ap (λ z. zs ++ z) (tail_same e) ∙ sym (append_assoc zs ys xs)
 
-pub part : (ys xs : List Part) {zs : List Part} {ts us : List Placed} → Runs zs ts [] us → zs ≡ ys ++ xs → Parted ys xs ts us
-part [] xs {ts = ts} {us = us} r e = parted no_parts (subst (λ z. Runs z ts [] us) e r)
-part (y ∷ ys) xs stay e = cc
-part (y ∷ ys) xs (passes {xs = zs} n r) e = taken (head_same e) n (part (zs ++ ys) xs r (again zs ys xs e))
-part (y ∷ ys) xs (becomes {xs = zs} n r) e = turned (head_same e) n (part (zs ++ ys) xs r (again zs ys xs e))
+pub in_two : (ys xs : List Part) {zs : List Part} {ts us : List Placed} → Runs zs ts [] us → zs ≡ ys ++ xs → Parted ys xs ts us
+in_two [] xs {ts = ts} {us = us} r e = parted no_parts (subst (λ z. Runs z ts [] us) e r)
+in_two (y ∷ ys) xs stay e = cc
+in_two (y ∷ ys) xs (passes {xs = zs} n r) e = taken (head_same e) n (in_two (zs ++ ys) xs r (again zs ys xs e))
+in_two (y ∷ ys) xs (becomes {xs = zs} n r) e = turned (head_same e) n (in_two (zs ++ ys) xs r (again zs ys xs e))
 
 pub joins : {x : Part} {xs : List Part} {ts us vs : List Placed} → Stands (x ∷ []) ts [] us → Stands xs us [] vs → Stands (x ∷ xs) ts [] vs
 joins {xs = xs} s r = record { runs = λ rest. run_on (s.runs (xs ++ rest)) (r.runs rest) }
@@ -120,7 +120,7 @@ joins_all {xs = xs} {ys = ys} {ts = ts} {vs = vs} s r = record { runs = λ rest.
 
 -- what runs to the end does so whatever stands behind
 pub stands_to_end : {xs : List Part} {ts us : List Placed} → Runs xs ts [] us → Stands xs ts [] us
-stands_to_end {xs = xs} {ts = ts} {us = us} r = go (part xs [] r (sym (append-nil xs)))
+stands_to_end {xs = xs} {ts = ts} {us = us} r = go (in_two xs [] r (sym (append-nil xs)))
   where
     go : Parted xs [] ts us → Stands xs ts [] us
     go (parted {vs = vs} s q) = subst (λ z. Stands xs ts [] z) (sym (ended q)) s

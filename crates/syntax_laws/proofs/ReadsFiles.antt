@@ -9,7 +9,7 @@ use Rattle.grammar_laws.proofs.Trees.{body_begins}
 use Rattle.grammar_laws.specs.Prefixes.{AgreeThrough}
 use Rattle.syntax_laws.specs.Expecting.{Part, become, first, next, Runs, stay, passes, becomes, Stands, Sticks}
 use Rattle.syntax_laws.specs.Expecting as part
-use Rattle.syntax_laws.proofs.Local.{run_on, ended, Parted, parted, part, joins, stands_to_end, no_end, refused_rest}
+use Rattle.syntax_laws.proofs.Local.{run_on, ended, Parted, parted, in_two, joins, stands_to_end, no_end, refused_rest}
 use Rattle.syntax_laws.proofs.ReadsLeaves.{declarations_read}
 use Rattle.syntax_laws.proofs.ReadsPatterns.{pattern_read, items_read}
 
@@ -57,7 +57,7 @@ opened r = ended (ended (ended r))
 
 pattern_body : (ts us : List Placed) → Runs (part.pattern ∷ part.end ∷ []) ts [] us → Runs (part.body ∷ part.end ∷ []) ts [] us
 pattern_body [] us r = absurd (ended (ended (opened r)))
-pattern_body (symbol open_bracket at a ∷ ts) us r = becomes refl (annotated (part (part.blocks ∷ []) (part.bare true ∷ behind_bare) (opened r) refl))
+pattern_body (symbol open_bracket at a ∷ ts) us r = becomes refl (annotated (in_two (part.blocks ∷ []) (part.bare true ∷ behind_bare) (opened r) refl))
 pattern_body (ident n at a ∷ ts) us r = let s = ended (ended (ended (opened r))) in becomes refl (passes refl (becomes (plain_behind ts us s) s))
 pattern_body (cname p n at a ∷ ts) us r = let s = ended (ended (ended (opened r))) in becomes refl (passes refl (becomes (typed_behind ts us s) s))
 pattern_body (keyword word.start at a ∷ ts) us r = absurd (ended (ended (opened r)))
@@ -110,7 +110,7 @@ items_body (keyword word.div at a ∷ ts) us r = becomes refl r
 items_body (keyword word.include at a ∷ ts) us r = becomes refl r
 items_body (ident n at a ∷ ts) us r = becomes refl (passes refl (named_items ts us (ended (ended (ended (ended r))))))
 items_body (cname p n at a ∷ ts) us r = becomes refl (passes refl (prefixed_items ts us (ended (ended (ended r)))))
-items_body (symbol open_bracket at a ∷ ts) us r = becomes refl (annotated_items (part (part.blocks ∷ []) (part.item false ∷ items_to_end) (ended (ended r)) refl))
+items_body (symbol open_bracket at a ∷ ts) us r = becomes refl (annotated_items (in_two (part.blocks ∷ []) (part.item false ∷ items_to_end) (ended (ended r)) refl))
 items_body (t at a ∷ ts) us r = absurd (ended (ended r))
 
 body_read : {ts : List Placed} {b : Body} → DerivesBody ts b → Stands (part.body ∷ part.end ∷ []) ts [] []

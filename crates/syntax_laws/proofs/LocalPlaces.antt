@@ -1,0 +1,21 @@
+-- The place of a syntax error: where the reader is refused behind tokens that begin a schema.
+use Rattle.std.proofs.Common.{◌≡◌, ℕ, List, [], ◌∷◌, ◌++◌, length, take, refl, sym, ap, ◌∙◌, subst}
+use Rattle.std.proofs.Math.Seq.{take-append_seam}
+use Rattle.token_laws.specs.Tokens.{Placed, ◌at◌}
+use Rattle.grammar_laws.specs.Grammar.{Begins}
+use Rattle.grammar_laws.specs.Faults.{SyntaxAt}
+use Rattle.grammar_laws.specs.Prefixes.{place_at}
+use Rattle.grammar_laws.proofs.Prefixes.{syntax_at}
+use Rattle.syntax_laws.specs.Expecting.{Sticks}
+use Rattle.syntax_laws.specs.Expecting as part
+use Rattle.syntax_laws.proofs.ReadsFiles.{nothing_behind}
+
+pub place_behind : (before us : List Placed) (end : ℕ) → place_at (before ++ us) end (length before) ≡ place_at us end 0
+place_behind [] us end = refl
+place_behind (t at a ∷ before) us end = place_behind before us end
+
+pub stuck_place : (ts before us : List Placed) (end : ℕ) → Sticks (part.declarations ∷ part.body ∷ part.end ∷ []) ts us → ts ≡ before ++ us → Begins before → SyntaxAt ts end (place_at us end 0)
+stuck_place ts before us end s same begins =
+    let passed : take (length before) ts ≡ before = ap (take (length before)) same ∙ take-append_seam before us in
+    let error = syntax_at (length before) ts end (subst Begins (sym passed) begins) (λ vs f agree d. nothing_behind ts before us vs f s same agree d) in
+    subst (SyntaxAt ts end) (ap (λ z. place_at z end (length before)) same ∙ place_behind before us end) error
