@@ -6,7 +6,7 @@ use Rattle.grammar_laws.specs.Grammar.{Begins}
 use Rattle.grammar_laws.specs.Faults.{SyntaxAt}
 use Rattle.grammar_laws.specs.Prefixes.{place_at}
 use Rattle.grammar_laws.proofs.Prefixes.{syntax_at}
-use Rattle.syntax_laws.specs.Expecting.{Sticks}
+use Rattle.syntax_laws.specs.Expecting.{Stands, Sticks}
 use Rattle.syntax_laws.specs.Expecting as part
 use Rattle.syntax_laws.proofs.Local.{stands_suffix}
 use Rattle.syntax_laws.proofs.ReadsFiles.{nothing_behind}
@@ -25,6 +25,10 @@ stuck_place ts before us end s same begins =
 -- the place of the error, from the parts on which the reader sticks alone
 pub sticks_at_error : (ts us : List Placed) (end : ℕ) → Sticks (part.declarations ∷ part.body ∷ part.end ∷ []) ts us → SyntaxAt ts end (place_at us end 0)
 sticks_at_error ts us end s =
-    let h = stands_suffix s.1 in
-    let b = read_begins h.0 us s.0 (subst (λ z. Stands (part.declarations ∷ part.body ∷ part.end ∷ []) z s.0 us) h.1 s.1) in
-    stuck_place ts h.0 us end s h.1 b
+    go s
+  where
+    go : Sticks (part.declarations ∷ part.body ∷ part.end ∷ []) ts us → SyntaxAt ts end (place_at us end 0)
+    go (ys, stands, refused) =
+        let h = stands_suffix stands in
+        let b = read_begins h.0 us ys (subst (λ z. Stands (part.declarations ∷ part.body ∷ part.end ∷ []) z ys us) h.1 stands) in
+        stuck_place ts h.0 us end (ys, stands, refused) h.1 b
