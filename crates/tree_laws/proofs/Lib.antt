@@ -1,0 +1,5 @@
+pub mod Picks
+pub mod Nodes
+pub mod Places
+pub mod Narrow
+pub mod Whole
