@@ -3,3 +3,5 @@ pub mod Nodes
 pub mod Places
 pub mod Narrow
 pub mod Whole
+pub mod Distinct
+pub mod Examples

@@ -9,7 +9,7 @@ use Rattle.token_laws.proofs.Names.{IsNcText, names_are}
 use Rattle.grammar_laws.specs.Trees.{File, Body}
 use Rattle.grammar_laws.specs.Grammar.{Derives, DerivesBody}
 use Rattle.grammar_laws.specs.Grammar as by
-use Rattle.tree_laws.specs.WholeBodies.{members, names, places, references_of_body, AreDistinct, AreDeclarationsWithin, IsWhole}
+use Rattle.tree_laws.specs.WholeBodies.{with_members, with_ncnames, within, references_of_body, AreDistinct, AreDeclarationsWithin, IsWhole}
 use Rattle.tree_laws.proofs.Picks.{Picks, done, skip, pick, pick_declarations, pick_body}
 use Rattle.tree_laws.proofs.Nodes.{whole, NamesNcname, AreGood, behind, declarations_within, whole_body}
 use Rattle.tree_laws.proofs.Places.{AreAscending, places_ascend}
@@ -69,9 +69,9 @@ whole_from : (low end : ℕ) {ts : List Placed} {b : Body} → DerivesBody ts b 
 whole_from low end {b = b} d g asc =
     let w = whole_body end d g in
     record {
-      places = narrow_body (whole end) (places end) (record { pattern = λ p h. h.1; class = λ c h. h.2; item = λ i h. h }) b w;
-      names = narrow_body (whole end) names (record { pattern = λ p h. tt; class = λ c h. h.1; item = λ i h. tt }) b w;
-      members = narrow_body (whole end) members (record { pattern = λ p h. h.0; class = λ c h. h.0; item = λ i h. tt }) b w;
+      places = narrow_body (whole end) (within end) (record { pattern = λ p h. h.1; class = λ c h. h.2; item = λ i h. h }) b w;
+      names = narrow_body (whole end) with_ncnames (record { pattern = λ p h. tt; class = λ c h. h.1; item = λ i h. tt }) b w;
+      members = narrow_body (whole end) with_members (record { pattern = λ p h. h.0; class = λ c h. h.0; item = λ i h. tt }) b w;
       references = distinct low (references_of_body b) (rise low end (pick_body d) asc);
     }
 

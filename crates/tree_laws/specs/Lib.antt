@@ -1,1 +1,2 @@
 pub mod WholeBodies
+pub mod Examples

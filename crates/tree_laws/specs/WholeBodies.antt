@@ -84,8 +84,8 @@ abbrev pub HasClassMembers : Class → Type 0
 HasClassMembers (full.choice_class cs) = HasTwoClasses cs
 HasClassMembers c = ⊤
 
-abbrev pub members : Tests
-members = record { pattern = HasMembers; class = HasClassMembers; item = λ i. ⊤ }
+abbrev pub with_members : Tests
+with_members = record { pattern = HasMembers; class = HasClassMembers; item = λ i. ⊤ }
 
 -- Local names are NCNames.
 abbrev pub HasNcname : Class → Type 0
@@ -93,8 +93,8 @@ HasNcname (full.plain l at) = IsTrue (is_ncname l)
 HasNcname (full.prefixed p l at) = IsTrue (is_ncname l)
 HasNcname c = ⊤
 
-abbrev pub names : Tests
-names = record { pattern = λ p. ⊤; class = HasNcname; item = λ i. ⊤ }
+abbrev pub with_ncnames : Tests
+with_ncnames = record { pattern = λ p. ⊤; class = HasNcname; item = λ i. ⊤ }
 
 -- Places are at most `end`.
 abbrev pub IsUriWithin : ℕ → Uri → Type 0
@@ -150,8 +150,8 @@ IsItemWithin end (full.define n m p at) = at ≤ end
 IsItemWithin end (full.div is) = ⊤
 IsItemWithin end (full.include l h is at) = (at ≤ end) × IsPassedWithin end h
 
-abbrev pub places : ℕ → Tests
-places end = record { pattern = IsPatternWithin end; class = IsClassWithin end; item = IsItemWithin end }
+abbrev pub within : ℕ → Tests
+within end = record { pattern = IsPatternWithin end; class = IsClassWithin end; item = IsItemWithin end }
 
 -- The places of the references, in the order of the tree.
 abbrev mutual
@@ -196,7 +196,7 @@ AreDistinct xs = (a : ℕ) (m n : Contains xs a) → m.0 ≡ n.0
 
 -- a body whose places are at most `end`
 pub record IsWhole (end : ℕ) (b : Body) : Type 0 where
-  pub places : PassesBody (places end) b
-  pub names : PassesBody names b
-  pub members : PassesBody members b
+  pub places : PassesBody (within end) b
+  pub names : PassesBody with_ncnames b
+  pub members : PassesBody with_members b
   pub references : AreDistinct (references_of_body b)
