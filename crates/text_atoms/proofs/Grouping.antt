@@ -11,7 +11,6 @@ use Rattle.text_atoms.specs.declared.kind.Kind.{Kind as RustKind}
 use Rattle.text_atoms.specs.declared.kind.Kind.TheVariants as rust
 use Rattle.text_atoms.specs.Kinds.{kind_of}
 use Rattle.text_atoms.specs.Literals.{members_of}
-use Rattle.text_atoms.specs.Likeness.{ValuesAgree, KindsAgree, NoneAlikeBefore}
 use Rattle.text_atoms.proofs.Members.{member_none, map_member, member_of_map}
 use Rattle.text_atoms.proofs.Numbering.{numbered-push}
 
@@ -112,100 +111,3 @@ module _ (l : Literals) where
           )
       each i j y z (inr (a, e)) (inr (b, f)) =
           (λ s. subst (λ (u : Text). AreAlikeTexts l y u) (e ∙ sym f) (alike-itself y), λ s. last i a ∙ sym (last j b))
-
-  -- in the group of an alike one
-  pub old_group : (texts : List Text) (n : ℕ) (ks : List ℕ) (p g : ℕ) → n < length texts → Groups_of (take n texts) ks → p < n → slice_get ks p ≡ Some g →
-      ((x : Text) (y : Text) → slice_get texts p ≡ Some x → slice_get texts n ≡ Some y → AreAlikeTexts l x y) → Groups_of (take (n + 1) texts) (ks ++ g ∷ [])
-  old_group texts n ks p g below h early at like =
-      let (x, here) = get_some texts n below in
-      let (z, there) = get_some texts p (omega arith) in
-      subst (λ (xs : List Text). Groups_of xs (ks ++ g ∷ [])) (sym (grown texts n x here)) (one_group (take n texts) ks x g h (let lt = group_same ks p g at in omega arith)
-      (λ i y e. (
-      let both = h.each i p y z e (take_get texts n p z early there) in
-      (λ s. alike-then y z x (both.0 (s ∙ sym at)) (like z x there here), λ s. both.1 (alike-then y x z s (alike-back z x (like z x there here))) ∙ at))))
-
-  -- in a new group
-  pub new_group : (texts : List Text) (n : ℕ) (ks : List ℕ) (g : ℕ) → n < length texts → Groups_of (take n texts) ks → g ≡ group_count ks → NoneAlikeBefore l texts n n → Groups_of (take (n + 1) texts) (ks ++ g ∷ [])
-  new_group texts n ks g below h is none =
-      let (x, here) = get_some texts n below in
-      subst (λ (xs : List Text). Groups_of xs (ks ++ g ∷ [])) (sym (grown texts n x here)) (one_group (take n texts) ks x g h (omega arith)
-      (λ i y e. (
-        (λ s. absurd (let lt = group_same ks i g s in omega arith)),
-        (λ a. absurd (let (early, there) = get_take texts n i y e in none i y x early there here a)),
-      )))
-
-pub groups_long : (l : Literals) (texts : List Text) (n : ℕ) (ks : List ℕ) → n ≤ length texts → Groups_of l (take n texts) ks → length ks ≡ n
-groups_long l texts n ks le h = h.same_length ∙ length-take-le n texts le
-
--- ---- lists of values and kinds that agree
-pub values_none : (members : List (RustKind × Text)) (s t : Text) → ValuesAgree (take 0 members) s t
-values_none members s t m h = absurd (member_none m h)
-
-pub values_more : (members : List (RustKind × Text)) (i : ℕ) (m : RustKind × Text) (s t : Text) → i < length members → m ≡ get_or members i m → ValuesAgree (take i members) s t →
-    equal (kind_of m.0) s m.1 ≡ equal (kind_of m.0) t m.1 → ValuesAgree (take (i + 1) members) s t
-values_more members i m s t below is before this n h =
-    elim (Contains-push_cases (take i members) m n (subst (λ (ys : List (RustKind × Text)). Contains ys n) (take_more members i m below ∙ ap (λ (y : RustKind × Text). take i members ++ y ∷ []) (sym is)) h)) [
-      | inl k ↦ before n k
-      | inr same ↦ subst (λ (y : RustKind × Text). equal (kind_of y.0) s y.1 ≡ equal (kind_of y.0) t y.1) same this
-    ]
-
-pub values_all : (members : List (RustKind × Text)) (i : ℕ) (s t : Text) → length members ≤ i → ValuesAgree (take i members) s t → ValuesAgree members s t
-values_all members i s t long h = subst (λ (ys : List (RustKind × Text)). ValuesAgree ys s t) (take_all i members long) h
-
-pub values_at : (members : List (RustKind × Text)) (i : ℕ) (m : RustKind × Text) (s t : Text) → i < length members → m ≡ get_or members i m → ValuesAgree members s t → equal (kind_of m.0) s m.1 ≡ equal (kind_of m.0) t m.1
-values_at members i m s t below is h = h m (i, below, sym is)
-
-pub kinds_none : (marked : List Kind) (kinds : List RustKind) (s t : Text) → KindsAgree marked (take 0 kinds) s t
-kinds_none marked kinds s t k h = absurd (member_none k h)
-
-pub kinds_more : (marked : List Kind) (kinds : List RustKind) (i : ℕ) (d : RustKind) (s t : Text) → i < length kinds → KindsAgree marked (take i kinds) s t →
-    (Contains marked (kind_of (get_or kinds i d)) → allows (kind_of (get_or kinds i d)) s ≡ allows (kind_of (get_or kinds i d)) t) → KindsAgree marked (take (i + 1) kinds) s t
-kinds_more marked kinds i d s t below before this k h =
-    elim (Contains-push_cases (take i kinds) (get_or kinds i d) k (subst (λ (ys : List RustKind). Contains ys k) (take_more kinds i d below) h)) [
-      | inl m ↦ before k m
-      | inr same ↦ subst (λ (y : RustKind). Contains marked (kind_of y) → allows (kind_of y) s ≡ allows (kind_of y) t) same this
-    ]
-
-pub kinds_all : (marked : List Kind) (kinds : List RustKind) (i : ℕ) (s t : Text) → length kinds ≤ i → KindsAgree marked (take i kinds) s t → KindsAgree marked kinds s t
-kinds_all marked kinds i s t long h = subst (λ (ys : List RustKind). KindsAgree marked ys s t) (take_all i kinds long) h
-
--- every kind of the model is that of a variant
-variant_of : (k : Kind) → (v : RustKind) × (kind_of v ≡ k)
-variant_of Str = (rust.Str, refl)
-variant_of Token = (rust.Token, refl)
-variant_of Boolean = (rust.Boolean, refl)
-variant_of Integer = (rust.Integer, refl)
-variant_of NonNegative = (rust.NonNegative, refl)
-variant_of Positive = (rust.Positive, refl)
-variant_of NcName = (rust.NcName, refl)
-variant_of Nmtoken = (rust.Nmtoken, refl)
-
-abbrev pub all_variants : List RustKind
-all_variants = rust.Str ∷ rust.Token ∷ rust.Boolean ∷ rust.Integer ∷ rust.NonNegative ∷ rust.Positive ∷ rust.NcName ∷ rust.Nmtoken ∷ []
-
-is_variant : (v : RustKind) → Contains all_variants v
-is_variant rust.Str = (0, omega arith, refl)
-is_variant rust.Token = (1, omega arith, refl)
-is_variant rust.Boolean = (2, omega arith, refl)
-is_variant rust.Integer = (3, omega arith, refl)
-is_variant rust.NonNegative = (4, omega arith, refl)
-is_variant rust.Positive = (5, omega arith, refl)
-is_variant rust.NcName = (6, omega arith, refl)
-is_variant rust.Nmtoken = (7, omega arith, refl)
-
-pub alike_values : (l : Literals) (members : List (RustKind × Text)) (s t : Text) → members_of members ≡ l.members → AreAlikeTexts l s t → ValuesAgree members s t
-alike_values l members s t is a m h =
-    a.values (kind_of m.0) m.1 (subst (λ (ys : List (Kind × Text)). Contains ys (kind_of m.0, m.1)) is (member_of_map (λ (m : RustKind × Text). let p : Kind × Text = (kind_of m.0, m.1) in p) members m h))
-
-pub alike_from : (l : Literals) (members : List (RustKind × Text)) (s t : Text) → members_of members ≡ l.members → is_white s ≡ is_white t → ValuesAgree members s t → KindsAgree l.kinds all_variants s t → AreAlikeTexts l s t
-alike_from l members s t is white values kinds = record {
-  white = white;
-  values = λ k v h. value k v (map_member (λ (m : RustKind × Text). let p : Kind × Text = (kind_of m.0, m.1) in p) members (k, v) (subst (λ (ys : List (Kind × Text)). Contains ys (k, v)) (sym is) h));
-  kinds = λ k h. kind k h (variant_of k);
-}
-  where
-    value : (k : Kind) (v : Text) → (m : RustKind × Text) × Contains members m × ((let p : Kind × Text = (kind_of m.0, m.1) in p) ≡ (let p : Kind × Text = (k, v) in p)) → equal k s v ≡ equal k t v
-    value k v (m, inside, same) = subst (λ (p : Kind × Text). equal p.0 s p.1 ≡ equal p.0 t p.1) same (values m inside)
-
-    kind : (k : Kind) → Contains l.kinds k → (v : RustKind) × (kind_of v ≡ k) → allows k s ≡ allows k t
-    kind k h (v, same) = subst (λ (j : Kind). allows j s ≡ allows j t) same (kinds v (is_variant v) (subst (Contains l.kinds) (sym same) h))

@@ -3,6 +3,8 @@ mod Equal
 mod LoneWords
 pub mod Words
 mod Zeros
+mod CanonicalForms
+pub mod Signatures
 pub mod Members
 pub mod Marks
 pub mod Numbering

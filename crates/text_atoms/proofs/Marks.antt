@@ -38,7 +38,7 @@ number-place Positive = refl
 number-place NcName = refl
 number-place Nmtoken = refl
 
-place_injective : (j k : Kind) → place_of j ≡ place_of k → j ≡ k
+pub place_injective : (j k : Kind) → place_of j ≡ place_of k → j ≡ k
 place_injective j k e =
     let same : kind_number j ≡ kind_number k = omega (arith, number-place j, number-place k, e) in
     sym (kind_at-number j) ∙ ap kind_at same ∙ kind_at-number k

@@ -60,16 +60,20 @@ none_left t (c ∷ s) e l = absurd (omega arith)
 ascii_space : (b : ℕ) → is_space b ≡ true → b < 128
 ascii_space b e = grind (arith, nat_tests)
 
--- the text may be cut after the white space at its front, and before the first white space
-pub after_spaces : (t : List ℕ) → IsUtf8 t → IsCharBoundary t (prefix_len is_space t)
-after_spaces t u = at (prefix_len is_space t) refl
+-- a text may be cut after bytes of ASCII at its front
+pub after_prefix : (p : ℕ → Bool) → ((b : ℕ) → p b ≡ true → b < 128) → (t : List ℕ) → IsUtf8 t → IsCharBoundary t (prefix_len p t)
+after_prefix p ascii t u = at (prefix_len p t) refl
   where
-    at : (n : ℕ) → n ≡ prefix_len is_space t → IsCharBoundary t n
+    at : (n : ℕ) → n ≡ prefix_len p t → IsCharBoundary t n
     at zero e = IsCharBoundary-start t u
     at (suc n) e =
-        let passes = prefix_len_passes is_space t n 0 (omega arith) in
+        let passes = prefix_len_passes p t n 0 (omega arith) in
         let h : n + 1 ≡ suc n = omega arith in
-        rw h at (IsCharBoundary-after_ascii t n u (omega (arith, prefix_len-le-length is_space t)) (ascii_space _ passes))
+        rw h at (IsCharBoundary-after_ascii t n u (omega (arith, prefix_len-le-length p t)) (ascii _ passes))
+
+-- so after the white space at its front; and before the first white space
+pub after_spaces : (t : List ℕ) → IsUtf8 t → IsCharBoundary t (prefix_len is_space t)
+after_spaces t u = after_prefix is_space ascii_space t u
 
 pub before_space : (t : List ℕ) → IsUtf8 t → IsCharBoundary t (position_or_len is_space t)
 before_space t u = elim (cases_lt (position_or_len is_space t) (length t)) [ inl l ↦ inside l | inr g ↦ at_end g ]

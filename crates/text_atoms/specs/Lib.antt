@@ -2,5 +2,6 @@ pub mod Kinds
 pub mod Literals
 pub mod Parts
 pub mod Origins
-pub mod Likeness
+pub mod Canonical
+pub mod Signatures
 pub mod Standing

@@ -1,16 +1,18 @@
 -- The texts that literals give to the rules for atoms.
-use Rattle.std.specs.Prelude.{◌≡◌, ℕ, ◌<◌, Some, None, Option, List, Contains}
+use Rattle.std.specs.Prelude.{◌≡◌, ℕ, ◌<◌, Some, None, Option, List, Contains, nat_eq, if◌then◌else◌}
 use Rattle.std.specs.List.{filter_map}
 use denote.Ref.{Bor}
 use Rattle.rng_model.specs.Texts.{Text, normal}
 use Rattle.rng_model.specs.Kinds.{Kind, Str, Token}
 use Rattle.rng_model.specs.Atoms.{spaced}
 use Rattle.text_atoms.specs.Kinds.{kind_of}
+use Rattle.text_atoms.specs.Literals.{place_of}
+use Rattle.text_atoms.specs.Canonical.{canonical}
 use Rattle.text_atoms.specs.declared.kind.Kind as rust
 use Rattle.text_atoms.specs.declared.parts.Part.{Part}
-use Rattle.text_atoms.specs.declared.parts.Part.TheVariants.{Strings, TokenForms, OtherForms, Texts, Forms}
+use Rattle.text_atoms.specs.declared.parts.Part.TheVariants.{Strings, TokenForms, OtherForms, Texts, Forms, Values}
 
--- what a part takes of a literal: its text or its normal form, or nothing
+-- what a part takes of a literal: its text, its normal form or its canonical form, or nothing
 abbrev pub part_of : Part → Kind × Text → Option Text
 part_of Strings (Str, t) = Some t
 part_of Strings m = None
@@ -21,6 +23,7 @@ part_of OtherForms (Token, t) = None
 part_of OtherForms (k, t) = Some (normal t)
 part_of Texts (k, t) = Some t
 part_of Forms (k, t) = Some (normal t)
+part_of (Values wanted) (k, t) = if nat_eq (place_of k) (place_of (kind_of wanted)) then canonical k t else None
 
 -- the part of all literals
 abbrev pub parts_of : Part → List (Kind × Text) → List Text

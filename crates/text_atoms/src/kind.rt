@@ -64,13 +64,12 @@ impl Kind {
 fn allows_word(kind: Kind, word: &str) -> bool
     ensures { result ≡ allows_normal (kind_of kind) word.now }
 {
-    let bytes = word.as_bytes();
     match kind {
         Kind::Str | Kind::Token => true,
         Kind::Boolean => is_yes(word) || is_no(word),
-        Kind::Integer => is_integer(bytes),
-        Kind::NonNegative => is_integer(bytes) && (!has_minus(bytes) || is_zero(bytes)),
-        Kind::Positive => is_integer(bytes) && !has_minus(bytes) && !is_zero(bytes),
+        Kind::Integer => is_integer(word),
+        Kind::NonNegative => is_integer(word) && (!has_minus(word) || is_zero(word)),
+        Kind::Positive => is_integer(word) && !has_minus(word) && !is_zero(word),
         Kind::NcName => is_ncname(word),
         Kind::Nmtoken => is_nmtoken(word),
     }
@@ -83,13 +82,13 @@ fn equal_words(kind: Kind, a: &str, b: &str) -> bool
     match kind {
         Kind::Boolean => (is_yes(a) && is_yes(b)) || (is_no(a) && is_no(b)),
         Kind::Integer | Kind::NonNegative | Kind::Positive => {
-            allows_word(kind, a) && allows_word(kind, b) && same_integer(a.as_bytes(), b.as_bytes())
+            allows_word(kind, a) && allows_word(kind, b) && same_integer(a, b)
         }
         _ => allows_word(kind, a) && a == b,
     }
 }
 
-fn is_yes(word: &str) -> bool
+pub(crate) fn is_yes(word: &str) -> bool
     ensures { result ≡ is_yes word.now }
 {
     matches!(word, "true" | "1")

@@ -3,6 +3,7 @@
 
 mod alike;
 mod atoms;
+mod canonical;
 mod characters;
 mod fresh;
 mod groups;
@@ -13,6 +14,7 @@ mod origin;
 mod origins;
 mod parts;
 mod rules;
+mod signature;
 mod text;
 mod text_list;
 mod white_space;

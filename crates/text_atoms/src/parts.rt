@@ -5,6 +5,7 @@ ghost use Rattle.text_atoms.specs.Kinds.{kind_of};
 ghost use Rattle.text_atoms.specs.Literals.{members_of};
 ghost use Rattle.text_atoms.specs.Parts.{part_of, parts_of, IsLeastSpaced};
 
+use crate::canonical::canonical;
 use crate::kind::Kind;
 use crate::text::Text;
 use crate::white_space::normal;
@@ -24,6 +25,8 @@ pub(crate) enum Part {
     Texts,
     /// The normal forms of all kinds.
     Forms,
+    /// The canonical forms of a kind.
+    Values(Kind),
 }
 
 /// Adds a text to a set.
@@ -45,6 +48,8 @@ fn part_of(alloc: Global, part: Part, kind: Kind, text: &Text) -> Result<Option<
         (Part::TokenForms, _) => None,
         (Part::OtherForms, Kind::Str | Kind::Token) => None,
         (Part::OtherForms, _) => Some(normal(alloc, text.as_str())?),
+        (Part::Values(wanted), _) if kind == wanted => canonical(alloc, kind, text.as_str())?,
+        (Part::Values(_), _) => None,
     })
 }
 

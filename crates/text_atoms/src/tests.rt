@@ -14,8 +14,8 @@ fn normal_forms(rt: HostRuntime) -> Result<(), AllocError> {
         ("a\rb", "a b"),
         ("a\nb", "a b"),
         ("\r\n a\t\t", "a"),
-        ("a\u{A0}b", "a\u{A0}b"),
-        ("\u{A0}", "\u{A0}"),
+        ("a\u{00A0}b", "a\u{00A0}b"),
+        ("\u{00A0}", "\u{00A0}"),
         ("\u{3000}\u{10FFFF} x", "\u{3000}\u{10FFFF} x"),
     ] {
         let made = normal(alloc, text)?;
@@ -24,7 +24,7 @@ fn normal_forms(rt: HostRuntime) -> Result<(), AllocError> {
         assert!(rt; is_white(text) == form.is_empty(), "{text:?}");
         assert!(rt; normal_equal(text, form), "{text:?}");
     }
-    assert!(rt; is_space(' ') && !is_space('\u{A0}') && !is_space('\u{C}'));
+    assert!(rt; is_space(' ') && !is_space('\u{00A0}') && !is_space('\u{000C}'));
     assert!(rt; first_word(" a b") == Some(("a", " b")));
     assert!(rt; lone_word(" a ") == Some("a") && lone_word("a b").is_none());
     assert!(rt; !normal_equal("a b", "ab") && !normal_equal("a", "a b"));
@@ -85,7 +85,7 @@ fn kinds(rt: HostRuntime) -> Result<(), AllocError> {
     }
     assert!(rt; Kind::Str < Kind::Token && Kind::NcName < Kind::Nmtoken);
     let texts = [
-        Text::from_string(String::from_str(alloc, "\u{FF}")?),
+        Text::from_string(String::from_str(alloc, "\u{00FF}")?),
         Text::from_string(String::from_str(alloc, "z")?),
     ];
     assert!(rt; texts[1] < texts[0] && texts[0] == texts[0]);
@@ -98,11 +98,11 @@ fn name_characters(rt: HostRuntime) {
         ('A', 'Z'),
         ('_', '_'),
         ('a', 'z'),
-        ('\u{C0}', '\u{D6}'),
-        ('\u{D8}', '\u{F6}'),
-        ('\u{F8}', '\u{2FF}'),
-        ('\u{370}', '\u{37D}'),
-        ('\u{37F}', '\u{1FFF}'),
+        ('\u{00C0}', '\u{00D6}'),
+        ('\u{00D8}', '\u{00F6}'),
+        ('\u{00F8}', '\u{02FF}'),
+        ('\u{0370}', '\u{037D}'),
+        ('\u{037F}', '\u{1FFF}'),
         ('\u{200C}', '\u{200D}'),
         ('\u{2070}', '\u{218F}'),
         ('\u{2C00}', '\u{2FEF}'),
@@ -115,7 +115,7 @@ fn name_characters(rt: HostRuntime) {
         assert!(rt; is_name_char(first) && is_name_char(last), "{first:?}");
     }
     for c in [
-        '-', '.', '0', '9', '\u{B7}', '\u{300}', '\u{36F}', '\u{203F}', '\u{2040}',
+        '-', '.', '0', '9', '\u{00B7}', '\u{0300}', '\u{036F}', '\u{203F}', '\u{2040}',
     ] {
         assert!(rt; is_name_char(c) && !is_name_start(c), "{c:?}");
     }
@@ -125,10 +125,10 @@ fn name_characters(rt: HostRuntime) {
         '^',
         '`',
         '{',
-        '\u{BF}',
-        '\u{D7}',
-        '\u{F7}',
-        '\u{37E}',
+        '\u{00BF}',
+        '\u{00D7}',
+        '\u{00F7}',
+        '\u{037E}',
         '\u{2000}',
         '\u{200B}',
         '\u{200E}',
@@ -146,8 +146,8 @@ fn name_characters(rt: HostRuntime) {
         ':',
         ',',
         '/',
-        '\u{B6}',
-        '\u{B8}',
+        '\u{00B6}',
+        '\u{00B8}',
         '\u{203E}',
         '\u{2041}',
     ] {
