@@ -5,12 +5,12 @@ use rnc_lexer::lex;
 use std::alloc::{AllocError, Global};
 use std::time::Instant;
 use std::{env, io};
-use text_atoms::{Atoms, Kind, Literals, Text, TextList};
+use text_atoms::{Atoms, Kind, Literals, Text, TextList, alike_atoms};
 
 /// The bytes of a schema that is lexed: the most that a schema may have.
 const SCHEMA: usize = 1_048_576;
 
-/// The literals whose atoms are made, of 50 bytes each.
+/// The literals whose atoms are made and grouped, of 50 bytes each.
 const LITERALS: u32 = 20_000;
 
 /// What the schema of a benchmark of the lexer is filled with.
@@ -57,7 +57,7 @@ fn main(rt: HostRuntime) -> io::Result<()> {
     let alloc = rt.alloc();
     let Some(name) = env::args(&rt)?.nth(1) else {
         println!(rt;
-            "lex-short-tokens lex-comment lex-elements lex-quotes lex-escaped-names lex-escapes atoms"
+            "lex-short-tokens lex-comment lex-elements lex-quotes lex-escaped-names lex-escapes atoms alike"
         )?;
         return Ok(());
     };
@@ -76,5 +76,12 @@ fn main(rt: HostRuntime) -> io::Result<()> {
     let start = Instant::now(&rt)?;
     let atoms = Atoms::of(alloc, &literals, &TextList::new(alloc))?;
     let micros = start.elapsed(&rt)?.as_micros();
-    println!(rt; "atoms: {} in {micros} microseconds", atoms.len())
+    println!(rt; "atoms: {} in {micros} microseconds", atoms.len())?;
+    if name.as_str() != "alike" {
+        return Ok(());
+    }
+    let start = Instant::now(&rt)?;
+    let groups = alike_atoms(alloc, &literals, &atoms)?;
+    let micros = start.elapsed(&rt)?.as_micros();
+    println!(rt; "alike: {} groups in {micros} microseconds", groups.count())
 }

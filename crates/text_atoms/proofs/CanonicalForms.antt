@@ -1,9 +1,9 @@
 -- Equal texts, and no others, have one canonical form.
-use Rattle.std.proofs.Common.{◌≡◌, ℕ, Bool, true, false, not, ◌&&◌, ◌||◌, ◌==◌, if◌then◌else◌, List, [], ◌∷◌, Option, Some, None, is_some, codes, refl, sym, ◌∙◌, ap, true≢false}
+use Rattle.std.proofs.Common.{◌≡◌, Bool, true, false, not, ◌&&◌, ◌||◌, ◌==◌, if◌then◌else◌, [], Some, None, is_some, codes, refl, sym, ◌∙◌, ap, true≢false}
 use Rattle.std.specs.Str.{bytes_eq}
 use Rattle.std.proofs.lemmas.Slice.Eq.{bytes_eq-Decides}
 use Rattle.rng_model.specs.Texts.{Text, normal}
-use Rattle.rng_model.specs.Kinds.{Kind, Str, Token, Boolean, Integer, NonNegative, Positive, NcName, Nmtoken, allows, equal, same_value, is_yes, is_no, same_boolean, has_minus, is_zero, magnitude, same_integer}
+use Rattle.rng_model.specs.Kinds.{Kind, Boolean, Integer, NonNegative, Positive, allows, equal, same_value, is_yes, is_no, same_boolean, has_minus, is_zero, magnitude, same_integer}
 use Rattle.text_atoms.specs.Canonical.{boolean_form, integer_form, form_of, canonical}
 use Rattle.text_atoms.proofs.Words.{by_test}
 

@@ -1,5 +1,5 @@
 -- Texts with one signature are alike, and the other way round.
-use Rattle.std.proofs.Common.{◌≡◌, ℕ, ◌+◌, ◌<◌, ◌⊎◌, inl, inr, ◌↔◌, Bool, true, false, ◌&&◌, if◌then◌else◌, List, [], ◌∷◌, ◌++◌, length, map, get_or, take, Option, Some, None, is_some, Contains, IsTrue, nat_eq, slice_get, refl, sym, ◌∙◌, ap, subst, arith, true≢false}
+use Rattle.std.proofs.Common.{◌≡◌, ℕ, ◌+◌, ◌<◌, ◌⊎◌, inl, inr, ◌↔◌, Bool, true, false, ◌&&◌, List, [], ◌∷◌, ◌++◌, length, map, get_or, take, Option, Some, None, is_some, Contains, nat_eq, refl, sym, ◌∙◌, ap, subst, arith, true≢false}
 use mathlib.Core.Bool.{beq}
 use Rattle.std.specs.Bool.{Decides}
 use Rattle.std.specs.Option.{option_eq}
@@ -10,6 +10,8 @@ use Rattle.std.proofs.lemmas.Map.Lookups.{exact_bytes}
 use Rattle.std.proofs.lemmas.Map.Views.{btree_set_contains_iff}
 use Rattle.std.specs.BTreeSet as tree
 use Rattle.std.specs.BTreeSet.{BTreeSet}
+use Rattle.std.proofs.lemmas.List.{take_more, map-append}
+use Rattle.std.proofs.lemmas.List.Elements.{Contains-push_cases}
 use Rattle.std.proofs.lemmas.Slice.Eq.{slice_eq-Decides}
 use Rattle.rng_model.specs.Texts.{Text, is_white}
 use Rattle.rng_model.specs.Kinds.{Kind, Str, Token, Boolean, Integer, NonNegative, Positive, NcName, Nmtoken, allows, equal}
@@ -21,38 +23,18 @@ use Rattle.text_atoms.specs.declared.parts.Part.TheVariants.{Values}
 use Rattle.text_atoms.specs.declared.signature.KindValues.{KindValues}
 use Rattle.text_atoms.specs.declared.signature.Mark.{Mark}
 use Rattle.text_atoms.specs.declared.signature.Signature.{Signature}
-use Rattle.text_atoms.specs.contracts.kind.KindPartialEq.TheImpl as kind_eq
 use Rattle.text_atoms.specs.contracts.signature.MarkPartialEq.TheImpl as mark_eq
 use Rattle.text_atoms.specs.contracts.signature.SignaturePartialEq.TheImpl as signature_eq
 use Rattle.text_atoms.specs.Kinds.{kind_of}
-use Rattle.text_atoms.specs.Literals.{place_of}
+use Rattle.text_atoms.specs.Literals.{place_of, members_of}
 use Rattle.text_atoms.specs.Parts.{part_of, parts_of}
 use Rattle.text_atoms.specs.Canonical.{canonical}
 use Rattle.text_atoms.specs.Signatures.{AreValuesOf, AreAllValues, value_in, mark_of, IsSignature}
 use Rattle.text_atoms.proofs.Words.{by_test}
-use Rattle.text_atoms.proofs.Members.{member_first, member_later, member_cases, member_none, map_member, member_of_map}
+use Rattle.text_atoms.proofs.Members.{member_first, member_later, member_cases, member_none, map_member}
 use Rattle.text_atoms.proofs.Marks.{place_injective}
 use Rattle.text_atoms.proofs.Sets.{filter_map_member, member_of_filter_map}
 use Rattle.text_atoms.proofs.CanonicalForms.{both_true, has_form, equal_by_form, form_by_equal}
-
--- kinds are compared by their places
-pub kind_places : (j k : RustKind) → kind_eq.eq-value.it j k ≡ nat_eq (place_of (kind_of j)) (place_of (kind_of k))
-kind_places rust.Str rust.Str = refl
-kind_places rust.Str k = refl
-kind_places rust.Token rust.Token = refl
-kind_places rust.Token k = refl
-kind_places rust.Boolean rust.Boolean = refl
-kind_places rust.Boolean k = refl
-kind_places rust.Integer rust.Integer = refl
-kind_places rust.Integer k = refl
-kind_places rust.NonNegative rust.NonNegative = refl
-kind_places rust.NonNegative k = refl
-kind_places rust.Positive rust.Positive = refl
-kind_places rust.Positive k = refl
-kind_places rust.NcName rust.NcName = refl
-kind_places rust.NcName k = refl
-kind_places rust.Nmtoken rust.Nmtoken = refl
-kind_places rust.Nmtoken k = refl
 
 -- ---- the values of a kind
 pub only_parts : (old new parts : List Text) → old ≡ [] → ((x : Text) → Contains new x ↔ (Contains old x ⊎ Contains parts x)) → (x : Text) → Contains new x ↔ Contains parts x
@@ -75,6 +57,22 @@ value_to : (k : RustKind) (ms : List (Kind × Text)) (v x : Text) → Contains m
 value_to k ms v x h e =
     let f : nat_eq (place_of (kind_of k)) (place_of (kind_of k)) ≡ true = grind arith in
     member_of_filter_map (part_of (Values k)) ms (kind_of k, v) x h (rw f e)
+
+pub values_made : (l : Literals) (k : RustKind) (ms : List (RustKind × Text)) (old new : List Text) → old ≡ [] → members_of ms ≡ l.members →
+    ((x : Text) → Contains new x ↔ (Contains old x ⊎ Contains (parts_of (Values k) (members_of ms)) x)) → (x : Text) → Contains new x ↔ Contains (parts_of (Values k) l.members) x
+values_made l k ms old new none is h =
+    subst (λ (ys : List (Kind × Text)). (x : Text) → Contains new x ↔ Contains (parts_of (Values k) ys) x) is (only_parts old new (parts_of (Values k) (members_of ms)) none h)
+
+-- one kind more
+pub all_more : (l : Literals) (wanted : List RustKind) (i : ℕ) (d : RustKind) (all new : List KindValues) (s : KindValues) → i < length wanted → AreAllValues l (take i wanted) all →
+    AreValuesOf l (get_or wanted i d) s → new ≡ all ++ s ∷ [] → AreAllValues l (take (i + 1) wanted) new
+all_more l wanted i d all new s below before are grown = rw grown (record {
+  kinds = map-append (λ (k : KindValues). k.kind) all (s ∷ []) ∙ ap (λ (ks : List RustKind). ks ++ s.kind ∷ []) before.kinds ∙ ap (λ (k : RustKind). take i wanted ++ k ∷ []) are.kind ∙ sym (take_more wanted i d below);
+  each = λ k h. elim (Contains-push_cases all s k h) [
+    | inl m ↦ before.each k m
+    | inr same ↦ subst (λ (z : KindValues). AreValuesOf l z.kind z) same (subst (λ (j : RustKind). AreValuesOf l j s) (sym are.kind) are)
+  ];
+})
 
 -- ---- marks
 value_is : (values : BTreeSet Text) (o : Option Text) (x : Text) → value_in values o ≡ Some x → (o ≡ Some x) × (tree.contains (slice_cmp nat_cmp) values x ≡ true)
@@ -157,10 +155,10 @@ option_Decides (Some x) (Some y) = (λ e. ap Some ((bytes_decides x y).0 e), λ 
 mark_Decides : (a b : Mark) → Decides (mark_eq.eq-value.it a b) (a ≡ b)
 mark_Decides a b = (
   (λ e. (
-    let (p, q) = both_true (beq a.is_allowed b.is_allowed) (option_eq (pointwise nat_eq) a.value b.value) e in
-    let f = (booleans_Decides a.is_allowed b.is_allowed).0 p in
-    let g = (option_Decides a.value b.value).0 q in
-    (λ i. record { is_allowed = f i; value = g i }))),
+      let (p, q) = both_true (beq a.is_allowed b.is_allowed) (option_eq (pointwise nat_eq) a.value b.value) e in
+      let f = (booleans_Decides a.is_allowed b.is_allowed).0 p in
+      let g = (option_Decides a.value b.value).0 q in
+      (λ i. record { is_allowed = f i; value = g i }))),
   (λ e. rw ((booleans_Decides a.is_allowed b.is_allowed).1 (ap (λ (m : Mark). m.is_allowed) e), (option_Decides a.value b.value).1 (ap (λ (m : Mark). m.value) e)) refl),
 )
 
@@ -201,18 +199,18 @@ module _ (l : Literals) (all : List KindValues) (are : AreAllValues l all_varian
   alike_by_marks t u white same = record {
     white = white;
     values = λ k v h. (
-      let (s, m, e) = values_at k in
-      subst (λ (j : Kind). equal j t v ≡ equal j u v) e (mark_tells l s (are.each s m) t u (map_tells (λ s. mark_of s t) (λ s. mark_of s u) all same s m) v (subst (λ (j : Kind). Contains l.members (j, v)) (sym e) h)));
+        let (s, m, e) = values_at k in
+        subst (λ (j : Kind). equal j t v ≡ equal j u v) e (mark_tells l s (are.each s m) t u (map_tells (λ s. mark_of s t) (λ s. mark_of s u) all same s m) v (subst (λ (j : Kind). Contains l.members (j, v)) (sym e) h)));
     kinds = λ k h. (
-      let (s, m, e) = values_at k in
-      subst (λ (j : Kind). allows j t ≡ allows j u) e (mark_allows l s (are.each s m) t u (map_tells (λ s. mark_of s t) (λ s. mark_of s u) all same s m) (subst (Contains l.kinds) (sym e) h)));
+        let (s, m, e) = values_at k in
+        subst (λ (j : Kind). allows j t ≡ allows j u) e (mark_allows l s (are.each s m) t u (map_tells (λ s. mark_of s t) (λ s. mark_of s u) all same s m) (subst (Contains l.kinds) (sym e) h)));
   }
 
   signature_Decides : (a b : Signature) → (signature_eq.eq-value.it a b ≡ true) ↔ ((a.is_white ≡ b.is_white) × (a.marks.items ≡ b.marks.items))
   signature_Decides a b = (
     (λ e. (
-      let (p, q) = both_true (beq a.is_white b.is_white) (pointwise mark_eq.eq-value.it a.marks.items b.marks.items) e in
-      ((booleans_Decides a.is_white b.is_white).0 p, (slice_eq-Decides mark_Decides a.marks.items b.marks.items _ refl).0 q))),
+        let (p, q) = both_true (beq a.is_white b.is_white) (pointwise mark_eq.eq-value.it a.marks.items b.marks.items) e in
+        ((booleans_Decides a.is_white b.is_white).0 p, (slice_eq-Decides mark_Decides a.marks.items b.marks.items _ refl).0 q))),
     (λ (p, q). rw ((booleans_Decides a.is_white b.is_white).1 p, (slice_eq-Decides mark_Decides a.marks.items b.marks.items _ refl).1 q) refl),
   )
 

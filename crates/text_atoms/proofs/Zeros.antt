@@ -1,5 +1,5 @@
 -- The digits of a number behind its leading zeros.
-use Rattle.std.proofs.Common.{◌≡◌, ℕ, ◌-◌, ◌==◌, List, [], ◌∷◌, length, take, drop, refl, ◌∙◌, ◌<◌, ◌≤◌, Bool, true, arith, IsUtf8, get_or}
+use Rattle.std.proofs.Common.{◌≡◌, ℕ, ◌==◌, List, [], ◌∷◌, length, drop, refl, ◌<◌, ◌≤◌, true, arith, IsUtf8, get_or}
 use Rattle.std.specs.List.{prefix_len}
 use Rattle.rng_model.specs.Kinds.{without_zeros}
 use Rattle.std.specs.Str.{IsCharBoundary}

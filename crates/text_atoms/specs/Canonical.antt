@@ -1,7 +1,7 @@
 -- One form for the equal texts of a kind.
-use Rattle.std.specs.Prelude.{Bool, not, ◌&&◌, ◌∷◌, Option, Some, None, if◌then◌else◌, codes}
+use Rattle.std.specs.Prelude.{not, ◌&&◌, ◌∷◌, Option, Some, None, if◌then◌else◌, codes}
 use Rattle.rng_model.specs.Texts.{Text, normal}
-use Rattle.rng_model.specs.Kinds.{Kind, Str, Token, Boolean, Integer, NonNegative, Positive, NcName, Nmtoken, allows, is_yes, has_minus, is_zero, magnitude}
+use Rattle.rng_model.specs.Kinds.{Kind, Str, Boolean, Integer, NonNegative, Positive, allows, is_yes, has_minus, is_zero, magnitude}
 
 -- of a text in normal form: `true` or `false`
 abbrev pub boolean_form : Text → Text

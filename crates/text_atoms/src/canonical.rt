@@ -46,11 +46,7 @@ fn form_of(alloc: Global, kind: Kind, text: &str) -> Result<Text, AllocError>
 
 /// The canonical form of a text in a kind, which is none where the kind doesn't allow the text. Equal texts, and no others, have the same.
 #[tactic(auto, unfolding(crate::specs::Canonical::canonical))]
-pub(crate) fn canonical(
-    alloc: Global,
-    kind: Kind,
-    text: &str,
-) -> Result<Option<Text>, AllocError>
+pub(crate) fn canonical(alloc: Global, kind: Kind, text: &str) -> Result<Option<Text>, AllocError>
     ensures { IfOk result (λ form. form ≡ canonical (kind_of kind) text.now) }
 {
     if !kind.allows(text) {

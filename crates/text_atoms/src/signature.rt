@@ -79,11 +79,7 @@ impl Mark {
 
 impl Signature {
     /// The signature of a text.
-    pub(crate) fn of(
-        alloc: Global,
-        all: &[KindValues],
-        text: &str,
-    ) -> Result<Signature, AllocError>
+    pub(crate) fn of(alloc: Global, all: &[KindValues], text: &str) -> Result<Signature, AllocError>
         ensures { IfOk result (λ s. IsSignature all.now text.now s) }
     {
         let mut marks = Vec::with_capacity(alloc, all.len())?;

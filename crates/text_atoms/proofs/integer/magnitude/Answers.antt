@@ -1,4 +1,4 @@
-use Rattle.std.proofs.Common.{◌∙◌, ap, drop}
+use Rattle.std.proofs.Common.{◌∙◌, ap}
 use Rattle.text_atoms.proofs.Zeros.{behind, after_zeros}
 use Rattle.rng_model.specs.Kinds.{without_zeros}
 use Rattle.text_atoms.proofs.integer.magnitude.Goals as goal

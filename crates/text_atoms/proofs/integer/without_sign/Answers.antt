@@ -1,4 +1,4 @@
-use Rattle.std.proofs.Common.{arith, rules}
+use Rattle.std.proofs.Common.{arith}
 use Rattle.text_atoms.proofs.Zeros.{after_sign}
 use Rattle.text_atoms.proofs.integer.without_sign.Goals as goal
 
