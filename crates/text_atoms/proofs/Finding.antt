@@ -10,6 +10,7 @@ use Rattle.std.specs.Cmp.Lexicographic.{slice_cmp, nat_list_cmp_total}
 use Rattle.std.specs.List.Sorted.{IsStrictlySortedBy, IsSortedBy, IsBinarySearchResult, IsSearchInRange}
 use Rattle.std.specs.BTreeMap as tree
 use Rattle.std.specs.BTreeMap.{BTreeMap}
+use Rattle.std.proofs.lemmas.Option.{slice_get_within, get_or_from_slice_get}
 use Rattle.std.proofs.lemmas.List.Sorted.{searchable_from_sorted}
 use Rattle.std.proofs.lemmas.Map.Keys.{Less-from_sorted}
 use Rattle.std.proofs.lemmas.Map.Lookups.{exact_bytes}
@@ -19,6 +20,8 @@ use Rattle.rng_model.specs.Atoms.{Literals, IsAtom, AreAtoms}
 use Rattle.text_atoms.specs.declared.origin.Origin.{Origin}
 use Rattle.text_atoms.specs.declared.origin.Origin.TheVariants.{StringLiteral, TokenForm, NormalForm, Sample, Fresh, Extra}
 use Rattle.text_atoms.specs.Origins.{Gives, origin_in, HasRules, HaveFirstRules, texts_of}
+use Rattle.text_atoms.specs.Standing.{IsStringAtom, NoneBefore}
+use Rattle.text_atoms.proofs.Members.{member_at}
 use Rattle.text_atoms.proofs.Extending.{some_of}
 
 abbrev pub Atom : Type 0
@@ -68,6 +71,36 @@ searched_text atoms x (Err i) up range found = λ (k, below, is). none k (omega 
         let parts = found (searchable_from_sorted nat_list_cmp_total (λ (a : Atom). a.0) atoms x (sorted_atoms atoms up)) in
         let clash : Greater ≡ Equal = itself (get_or atoms k (x, Extra)) Greater same (parts.1 k (x, Extra) late below) in
         cc
+
+-- ---- a string literal among the atoms
+text_of : (atoms : List Atom) (k : ℕ) (a : Atom) → slice_get atoms k ≡ Some a → slice_get (texts_of atoms) k ≡ Some a.0
+text_of [] k a e = cc
+text_of (b ∷ atoms) zero a e = let f : b ≡ a = cc in ap (λ (c : Atom). Some c.0) f
+text_of (b ∷ atoms) (suc k) a e = text_of atoms k a e
+
+-- an ascending list has a text at one place
+later : (xs : List Text) → IsStrictlySortedBy (slice_cmp nat_cmp) xs → (x : Text) (m n : ℕ) → m < n → slice_get xs m ≡ Some x → slice_get xs n ≡ Some x → ⊥
+later xs up x m n less e f =
+    let lt = slice_get_within xs n x f in
+    let below : slice_cmp nat_cmp (get_or xs m x) (get_or xs n x) ≡ Less = Less-from_sorted (slice_cmp nat_cmp) xs m n x up less lt in
+    let equal : slice_cmp nat_cmp (get_or xs m x) (get_or xs n x) ≡ Equal = rw (get_or_from_slice_get xs m x x e, get_or_from_slice_get xs n x x f) (tied_itself nat_list_cmp_total x) in
+    let both : Less ≡ Equal = sym below ∙ equal in
+    cc
+
+one_place : (xs : List Text) → IsStrictlySortedBy (slice_cmp nat_cmp) xs → (x : Text) (m n : ℕ) → slice_get xs m ≡ Some x → slice_get xs n ≡ Some x → m ≡ n
+one_place xs up x m n e f = elim (lesser m n) [
+  | inl early ↦ absurd (later xs up x m n early e f)
+  | inr late ↦ elim (lesser n m) [ inl early ↦ absurd (later xs up x n m early f e) | inr again ↦ omega (arith, late, again) ]
+]
+
+pub no_text : (atoms : List Atom) (x : Text) → (Contains (texts_of atoms) x → ⊥) → NoneBefore atoms (length atoms) (λ a. IsStringAtom a x)
+no_text atoms x none k a below at is = none (member_at (texts_of atoms) k x (text_of atoms k a at ∙ ap Some is.1))
+
+pub no_string : (atoms : List Atom) → IsStrictlySortedBy (slice_cmp nat_cmp) (texts_of atoms) → (x : Text) (i : ℕ) → slice_get (texts_of atoms) i ≡ Some x →
+    ((a : Atom) → slice_get atoms i ≡ Some a → IsStringAtom a x → ⊥) → NoneBefore atoms (length atoms) (λ a. IsStringAtom a x)
+no_string atoms up x i at none k a below there is =
+    let same : i ≡ k = one_place (texts_of atoms) up x i k at (text_of atoms k a there ∙ ap Some is.1) in
+    none a (rw same there) is
 
 -- as an option
 pub option_found : (r : Result ℕ ℕ) (o : Option ℕ) (P : ℕ → Type 0) (Q : Type 0) → o ≡ result_ok r → MatchResult r P (λ i. Q) → IfSome o P × IfNone o Q

@@ -85,17 +85,19 @@ fn is_form(atom: &(Text, Origin), text: &str) -> bool
     matches!(atom.1, Origin::TokenForm) && normal_equal(atom.0.as_str(), text)
 }
 
-// The position of a string literal.
+// The position of a string literal among ascending texts.
 fn string_position(atoms: &[(Text, Origin)], text: &str) -> Option<usize>
+    requires { IsStrictlySortedBy (slice_cmp nat_cmp) (texts_of atoms.now) }
     ensures found { IfSome result (λ i. SomeAt atoms.now i (λ a. IsStringAtom a text.now)) }
     ensures absent { IfNone result (NoneBefore atoms.now (length atoms.now) (λ a. IsStringAtom a text.now)) }
 {
-    for (position, atom) in atoms.iter().enumerate() {
-        if is_string(atom, text) {
-            return Some(position);
-        }
+    let place = position(atoms, text)?;
+    let atom = atoms.get(place)?;
+    if is_string(atom, text) {
+        Some(place)
+    } else {
+        None
     }
-    None
 }
 
 // The position of the atom of the token form that is the text's normal form.
