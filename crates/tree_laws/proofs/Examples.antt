@@ -14,7 +14,7 @@ digit e =
     clash (sym (ap are_name_chars same) ∙ e) refl
 
 pub digit_no_name : IsWhole 9 digit_name → ⊥
-digit_no_name w = digit w.names.1
+digit_no_name w = digit w.names.1.1
 
 pub one_place : IsWhole 9 shared_place → ⊥
 one_place w =

@@ -2,7 +2,7 @@
 use Rattle.std.proofs.Common.{◌≡◌, ℕ, ◌≤◌, true, List, [], ◌∷◌, Option, refl, sym, ap, ◌∙◌, subst, encode_utf8_all, chars}
 use Rattle.std.proofs.lemmas.Str.{chars-encodes}
 use Rattle.std.proofs.Math.Utf8.{scalars}
-use Rattle.std.specs.Prelude.{IsTrue, ⊤}
+use Rattle.std.specs.Prelude.{IsTrue, IsUtf8, ⊤}
 use Rattle.rng_model.specs.Texts.{Text}
 use Rattle.rng_model.specs.Names.{is_ncname, are_name_chars}
 use Rattle.token_laws.specs.Tokens.{Keyword, Symbol, Token, keyword, ident, cname, ns_name, segment, symbol, Placed, ◌at◌}
@@ -12,7 +12,7 @@ use Rattle.token_laws.proofs.Runs.{keyword_names}
 use Rattle.grammar_laws.specs.Trees.{Uri, Declaration, TypeName, Parameter, Passed, Class, Classes, Pattern, Patterns, more_patterns, Item, Items, Body}
 use Rattle.grammar_laws.specs.Grammar.{IsAnyId, ReadsUri, ReadsDeclaration, ReadsDeclarations, ReadsClass, ReadsAlternatives, ReadsSimple, ReadsBareClass, ReadsClassExcept, IsType, ReadsParameters, ReadsBraces, ReadsInherit, IsConnector, IsPostfix, ReadsPattern, ReadsMembers, ReadsParticle, ReadsPrimary, ReadsBare, ReadsItems, ReadsItem, ReadsInner, DerivesBody}
 use Rattle.grammar_laws.specs.Grammar as by
-use Rattle.tree_laws.specs.WholeBodies.{Tests, PassesClass, PassClasses, Passes, PassPatterns, PassesItem, PassItems, PassesBody, HasOne, HasOneClass, HasMembers, HasClassMembers, HasNcname, IsUriWithin, IsDeclarationWithin, AreDeclarationsWithin, IsTypeWithin, AreParametersWithin, IsPassedWithin, IsClassWithin, IsPatternWithin, IsItemWithin}
+use Rattle.tree_laws.specs.WholeBodies.{Tests, IsLocalName, PassesClass, PassClasses, Passes, PassPatterns, PassesItem, PassItems, PassesBody, HasOne, HasOneClass, HasMembers, HasClassMembers, HasNcname, IsUriWithin, IsDeclarationWithin, AreDeclarationsWithin, IsTypeWithin, AreParametersWithin, IsPassedWithin, IsClassWithin, IsPatternWithin, IsItemWithin}
 use Rattle.tree_laws.proofs.Picks.{Picks, done, skip, pick, pick_literal, pick_block, pick_blocks, pick_declaration, pick_simple, pick_class, pick_braces, pick_inherit, pick_particle, pick_item}
 
 -- all at once
@@ -21,8 +21,8 @@ whole end = record { pattern = λ p. HasMembers p × IsPatternWithin end p; clas
 
 -- the names that become local names of classes
 abbrev pub NamesNcname : Token → Type 0
-NamesNcname (ident n) = IsTrue (is_ncname n)
-NamesNcname (cname p n) = IsTrue (is_ncname n)
+NamesNcname (ident n) = IsLocalName n
+NamesNcname (cname p n) = IsLocalName n
 NamesNcname t = ⊤
 
 abbrev pub AreGood : ℕ → List Placed → Type 0
@@ -57,15 +57,18 @@ keyword_plain word.string = (refl, refl)
 keyword_plain word.text = (refl, refl)
 keyword_plain word.token = (refl, refl)
 
+keyword_utf8 : (k : Keyword) → IsUtf8 (keyword_text k)
+keyword_utf8 k = let h = keyword_plain k in (keyword_text k, (h.1, h.0))
+
 keyword_ncname : (k : Keyword) → IsTrue (is_ncname (keyword_text k))
 unfolding is_ncname
 keyword_ncname k =
     let h = keyword_plain k in
     ap are_name_chars (ap chars (sym h.0) ∙ chars-encodes (keyword_text k) h.1) ∙ keyword_names k
 
-any_ncname : (t : Token) (n : Text) → IsAnyId t n → NamesNcname t → IsTrue (is_ncname n)
-any_ncname (keyword k) n i g = subst (λ z. IsTrue (is_ncname z)) (sym i) (keyword_ncname k)
-any_ncname (ident m) n i g = subst (λ z. IsTrue (is_ncname z)) (sym i) g
+any_ncname : (t : Token) (n : Text) → IsAnyId t n → NamesNcname t → IsLocalName n
+any_ncname (keyword k) n i g = subst IsLocalName (sym i) (keyword_utf8 k, keyword_ncname k)
+any_ncname (ident m) n i g = subst IsLocalName (sym i) g
 any_ncname (cname p m) n i g = absurd i
 any_ncname (ns_name p) n i g = absurd i
 any_ncname (segment s) n i g = absurd i

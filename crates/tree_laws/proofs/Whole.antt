@@ -18,8 +18,8 @@ use Rattle.tree_laws.proofs.Narrow.{narrow_body}
 -- Each token of the text is good.
 named : (t : Token) → ((n : Text) → Contains (names_of t) n → IsNcText n) → NamesNcname t
 named (keyword k) h = tt
-named (ident n) h = (h n (zero, omega arith, refl)).1
-named (cname p n) h = (h n (1, omega arith, refl)).1
+named (ident n) h = h n (zero, omega arith, refl)
+named (cname p n) h = h n (1, omega arith, refl)
 named (ns_name p) h = tt
 named (segment s) h = tt
 named (symbol s) h = tt

@@ -1,5 +1,6 @@
 -- What every tree that tokens derive has, whatever it says; simplification rests on it.
-use Rattle.std.specs.Prelude.{◌≡◌, ℕ, ◌≤◌, List, [], ◌∷◌, ◌++◌, Option, Some, None, Contains, IsTrue, ⊤}
+use Rattle.std.specs.Prelude.{◌≡◌, ℕ, ◌≤◌, List, [], ◌∷◌, ◌++◌, Option, Some, None, Contains, IsTrue, IsUtf8, ⊤}
+use Rattle.rng_model.specs.Texts.{Text}
 use Rattle.rng_model.specs.Names.{is_ncname}
 use Rattle.grammar_laws.specs.Trees.{Uri, Declaration, TypeName, Parameter, Passed, Class, Classes, no_classes, more_classes, Pattern, Patterns, no_pattern, more_patterns, Item, Items, no_item, more_items, Body}
 use Rattle.grammar_laws.specs.Trees as full
@@ -87,10 +88,13 @@ HasClassMembers c = ⊤
 abbrev pub with_members : Tests
 with_members = record { pattern = HasMembers; class = HasClassMembers; item = λ i. ⊤ }
 
--- Local names are NCNames.
+-- Local names are texts, and NCNames.
+abbrev pub IsLocalName : Text → Type 0
+IsLocalName l = IsUtf8 l × IsTrue (is_ncname l)
+
 abbrev pub HasNcname : Class → Type 0
-HasNcname (full.plain l at) = IsTrue (is_ncname l)
-HasNcname (full.prefixed p l at) = IsTrue (is_ncname l)
+HasNcname (full.plain l at) = IsLocalName l
+HasNcname (full.prefixed p l at) = IsLocalName l
 HasNcname c = ⊤
 
 abbrev pub with_ncnames : Tests

@@ -9,7 +9,7 @@ ghost use Rattle.grammar_laws.specs.Grammar.{Derives};
 ghost use Rattle.tree_laws.specs.WholeBodies.{AreDistinct, IsWhole, AreDeclarationsWithin};
 ghost use Rattle.tree_laws.specs.Examples.{late_reference, digit_name, lone_member, shared_place};
 
-/// The tree of a schema file: its places are at most the file's length, the local names of its name classes are NCNames, its lists
+/// The tree of a schema file: its places are at most the file's length, the local names of its name classes are texts and NCNames, its lists
 /// have two members or more, and no two of its references stand at one place.
 pub fn trees_are_whole()
     ensures body { (bytes : List ℕ) (ts : List Placed) (f : File) → Tokens bytes ts → Derives ts f → IsWhole (length bytes) f.body }
