@@ -1,5 +1,6 @@
 pub mod Ordered
 pub mod Stored
+pub mod Schemas
 pub mod Facts
 pub mod Trees
 pub mod Interned

@@ -1,8 +1,9 @@
 // Choices: the ascending list of the members, each once.
-ghost use Rattle.std.specs.Prelude.{◌≡◌, ◌<◌, ◌∷◌, IfOk, IfNone, IfSome, OnErr};
+ghost use Rattle.std.specs.Prelude.{◌≡◌, ℕ, ◌<◌, ◌∷◌, IfOk, IfNone, IfSome, OnErr};
 ghost use Rattle.rng_model.specs.Constructors.{choice_of, members, of_members};
 ghost use Rattle.rng_model.specs.Patterns as pattern;
 ghost use Rattle.pattern_intern.specs.Ordered.{IsBelow, IsMember, IsOrdered, IsSplit};
+ghost use Rattle.pattern_intern.specs.Schemas.{AreRefsBelow};
 ghost use Rattle.pattern_intern.specs.Stored.{Extends, count, tree_at};
 
 use crate::id::PatternId;
@@ -41,6 +42,7 @@ impl Pool {
         ensures within { IfOk result (λ id. id.0 < count self.new) }
         ensures made { IfOk result (λ id. tree_at self.new id.0 ≡ of_members (tree_at self.old first.0 ∷ members (tree_at self.old others.0))) }
         ensures kept { Extends self.old self.new }
+        ensures refs { (n : ℕ) → AreRefsBelow n self.old → AreRefsBelow n self.new }
         ensures same { (self.new.classes ≡ self.old.classes) × (self.new.literals ≡ self.old.literals) }
     {
         self.all_ordered();
@@ -59,6 +61,7 @@ impl Pool {
         ensures within { IfOk result (λ id. id.0 < count self.new) }
         ensures made { IfOk result (λ id. tree_at self.new id.0 ≡ choice_of (tree_at self.old a.0) (tree_at self.old b.0)) }
         ensures kept { Extends self.old self.new }
+        ensures refs { (n : ℕ) → AreRefsBelow n self.old → AreRefsBelow n self.new }
         ensures same { (self.new.classes ≡ self.old.classes) × (self.new.literals ≡ self.old.literals) }
     {
         match (self.split(a), self.split(b)) {
@@ -89,6 +92,7 @@ impl Pool {
         ensures within { IfOk result (λ id. id.0 < count self.new) }
         ensures made { IfOk result (λ id. tree_at self.new id.0 ≡ choice_of (tree_at self.old a.0) (tree_at self.old b.0)) }
         ensures kept { Extends self.old self.new }
+        ensures refs { (n : ℕ) → AreRefsBelow n self.old → AreRefsBelow n self.new }
         ensures unchanged { OnErr result (self.new ≡ self.old) }
     {
         self.first_three();

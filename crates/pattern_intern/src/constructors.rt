@@ -7,6 +7,7 @@ ghost use Rattle.pattern_intern.specs.Comparisons.{IsPlain};
 ghost use Rattle.rng_model.specs.Depths.{depth, in_choice};
 ghost use Rattle.pattern_intern.specs.Facts.{IsFacts};
 ghost use Rattle.pattern_intern.specs.Ordered.{IsOrdered};
+ghost use Rattle.pattern_intern.specs.Schemas.{AreRefsBelow, HasRefsBelow};
 ghost use Rattle.pattern_intern.specs.Stored.{Extends, count, tree_at};
 ghost use Rattle.pattern_intern.specs.Trees.{PartsBelow, except_tree, node_tree};
 ghost use Rattle.text_atoms.specs.Kinds.{kind_of};
@@ -144,6 +145,7 @@ impl Pool {
         ensures within { IfOk result (λ id. id.0 < count self.new) }
         ensures made { IfOk result (λ id. tree_at self.new id.0 ≡ node_tree self.old node) }
         ensures kept { Extends self.old self.new }
+        ensures refs { (n : ℕ) → AreRefsBelow n self.old → HasRefsBelow n (node_tree self.old node) → AreRefsBelow n self.new }
         ensures same { (self.new.classes ≡ self.old.classes) × (self.new.literals ≡ self.old.literals) }
         ensures unchanged { OnErr result (self.new ≡ self.old) }
     {
@@ -158,6 +160,7 @@ impl Pool {
         ensures within { IfOk result (λ id. id.0 < count self.new) }
         ensures made { IfOk result (λ id. tree_at self.new id.0 ≡ group_of (tree_at self.old a.0) (tree_at self.old b.0)) }
         ensures kept { Extends self.old self.new }
+        ensures refs { (n : ℕ) → AreRefsBelow n self.old → AreRefsBelow n self.new }
         ensures unchanged { OnErr result (self.new ≡ self.old) }
     {
         match (self.node(a), self.node(b)) {
@@ -176,6 +179,7 @@ impl Pool {
         ensures within { IfOk result (λ id. id.0 < count self.new) }
         ensures made { IfOk result (λ id. tree_at self.new id.0 ≡ interleave_of (tree_at self.old a.0) (tree_at self.old b.0)) }
         ensures kept { Extends self.old self.new }
+        ensures refs { (n : ℕ) → AreRefsBelow n self.old → AreRefsBelow n self.new }
         ensures unchanged { OnErr result (self.new ≡ self.old) }
     {
         match (self.node(a), self.node(b)) {
@@ -194,6 +198,7 @@ impl Pool {
         ensures within { IfOk result (λ id. id.0 < count self.new) }
         ensures made { IfOk result (λ id. tree_at self.new id.0 ≡ after_of (tree_at self.old a.0) (tree_at self.old b.0)) }
         ensures kept { Extends self.old self.new }
+        ensures refs { (n : ℕ) → AreRefsBelow n self.old → AreRefsBelow n self.new }
         ensures unchanged { OnErr result (self.new ≡ self.old) }
     {
         match (self.node(a), self.node(b)) {
@@ -209,6 +214,7 @@ impl Pool {
         ensures within { IfOk result (λ id. id.0 < count self.new) }
         ensures made { IfOk result (λ id. tree_at self.new id.0 ≡ one_or_more_of (tree_at self.old a.0)) }
         ensures kept { Extends self.old self.new }
+        ensures refs { (n : ℕ) → AreRefsBelow n self.old → AreRefsBelow n self.new }
         ensures unchanged { OnErr result (self.new ≡ self.old) }
     {
         match self.node(a) {
@@ -222,6 +228,7 @@ impl Pool {
         ensures within { IfOk result (λ id. id.0 < count self.new) }
         ensures made { IfOk result (λ id. tree_at self.new id.0 ≡ pattern.ref element) }
         ensures kept { Extends self.old self.new }
+        ensures refs { (n : ℕ) → AreRefsBelow n self.old → element < n → AreRefsBelow n self.new }
         ensures unchanged { OnErr result (self.new ≡ self.old) }
     {
         self.make(Node::Ref(element))
@@ -237,6 +244,7 @@ impl Pool {
         ensures within { IfOk result (λ id. id.0 < count self.new) }
         ensures made { IfOk result (λ id. tree_at self.new id.0 ≡ data_of (kind_of kind) (except_tree self.old except)) }
         ensures kept { Extends self.old self.new }
+        ensures refs { (n : ℕ) → AreRefsBelow n self.old → AreRefsBelow n self.new }
         ensures unchanged { OnErr result (self.new ≡ self.old) }
     {
         let Some(id) = except else {

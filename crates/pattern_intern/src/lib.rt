@@ -9,11 +9,13 @@ mod id;
 mod intern;
 mod node;
 mod pool;
+mod schema;
 
 pub use facts::ContentType;
 pub use id::{ClassId, LiteralId, PatternId};
 pub use node::Node;
 pub use pool::Pool;
+pub use schema::{Definitions, Schema};
 
 #[cfg(test)]
 mod tests;

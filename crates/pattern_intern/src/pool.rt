@@ -9,6 +9,7 @@ ghost use Rattle.name_classes.specs.Views.{class_of};
 ghost use Rattle.rng_model.specs.Depths.{depth};
 ghost use Rattle.pattern_intern.specs.Facts.{IsFacts, type_of};
 ghost use Rattle.pattern_intern.specs.Ordered.{IsOrdered};
+ghost use Rattle.pattern_intern.specs.Schemas.{AreRefsBelow, HasRefsBelow};
 ghost use Rattle.pattern_intern.specs.Stored.{AreApart, Extends, class_at, count, literal_at, stored, tree_at};
 ghost use Rattle.pattern_intern.specs.Trees.{IsNode, PartsBelow, node_tree};
 
@@ -179,6 +180,7 @@ impl Pool {
         ensures within { IfOk result (λ id. id.0 < count self.new) }
         ensures made { IfOk result (λ id. tree_at self.new id.0 ≡ node_tree self.old node) }
         ensures kept { Extends self.old self.new }
+        ensures refs { (n : ℕ) → AreRefsBelow n self.old → HasRefsBelow n (node_tree self.old node) → AreRefsBelow n self.new }
         ensures same { (self.new.classes ≡ self.old.classes) × (self.new.literals ≡ self.old.literals) }
         ensures unchanged { OnErr result (self.new ≡ self.old) }
     {
@@ -197,6 +199,7 @@ impl Pool {
         ensures within { IfOk result (λ id. id.0 < count self.new) }
         ensures made { IfOk result (λ id. tree_at self.new id.0 ≡ pattern.attribute (class_of class) (tree_at self.old content.0)) }
         ensures kept { Extends self.old self.new }
+        ensures refs { (n : ℕ) → AreRefsBelow n self.old → AreRefsBelow n self.new }
         ensures unchanged { OnErr result (self.new ≡ self.old) }
     {
         intern_attribute(
@@ -220,6 +223,7 @@ impl Pool {
         ensures within { IfOk result (λ id. id.0 < count self.new) }
         ensures made { IfOk result (λ id. tree_at self.new id.0 ≡ pattern.value (kind_of kind) literal) }
         ensures kept { Extends self.old self.new }
+        ensures refs { (n : ℕ) → AreRefsBelow n self.old → AreRefsBelow n self.new }
         ensures unchanged { OnErr result (self.new ≡ self.old) }
     {
         intern_value(
@@ -242,6 +246,7 @@ impl Pool {
         ensures within { IfOk result (λ id. id.0 < count self.new) }
         ensures made { IfOk result (λ id. tree_at self.new id.0 ≡ attribute_of (class_of class.now) (tree_at self.old content.0)) }
         ensures kept { Extends self.old self.new }
+        ensures refs { (n : ℕ) → AreRefsBelow n self.old → AreRefsBelow n self.new }
         ensures unchanged { OnErr result (self.new ≡ self.old) }
     {
         match self.node(content) {
@@ -260,6 +265,7 @@ impl Pool {
         ensures within { IfOk result (λ id. id.0 < count self.new) }
         ensures made { IfOk result (λ id. tree_at self.new id.0 ≡ pattern.value (kind_of kind) text.now) }
         ensures kept { Extends self.old self.new }
+        ensures refs { (n : ℕ) → AreRefsBelow n self.old → AreRefsBelow n self.new }
         ensures unchanged { OnErr result (self.new ≡ self.old) }
     {
         let fact = leaf(false, Some(ContentType::Simple));
