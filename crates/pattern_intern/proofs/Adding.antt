@@ -13,11 +13,12 @@ use Rattle.pattern_intern.specs.declared.id.PatternId.{PatternId}
 use Rattle.pattern_intern.specs.declared.node.Node.{Node}
 use Rattle.pattern_intern.specs.declared.node.Node.TheVariants.{NotAllowed, Empty, AnyText, Ref, Value, DataType, Attribute, OneOrMore, Choice, Group, Interleave, After}
 use Rattle.pattern_intern.specs.Ordered.{IsOrdered}
+use Rattle.pattern_intern.specs.Schemas.{AreRefsBelow, HasRefsBelow}
 use Rattle.pattern_intern.specs.Stored.{Stored, stored, count, tree_at, class_at, literal_at, AreApart, Extends}
 use Rattle.pattern_intern.specs.Facts.{IsFacts}
 use Rattle.pattern_intern.specs.Trees.{node_tree, with_node, trees, stored_of, PartsBelow, IsNode, IsPool}
 use Rattle.pattern_intern.specs.Interned.{IsInterned}
-use Rattle.pattern_intern.proofs.Growing.{trees-push, at_new, extends-refl, extends-push, with_tree, pool-push, node_tree-extends, parts-extend}
+use Rattle.pattern_intern.proofs.Growing.{trees-push, at_new, extends-refl, extends-push, refs-push, with_tree, pool-push, node_tree-extends, parts-extend}
 
 -- what adding a node does
 module _ (nodes new : List Node) (facts now : List Facts) (cs : List Class) (ls : List Text) (node : Node) (fact : Facts) (h : IsPool nodes facts (stored_of nodes cs ls)) (below : PartsBelow (count (stored_of nodes cs ls)) (stored_of nodes cs ls) node) (described : IsFacts (node_tree (stored_of nodes cs ls) node) fact) (o : IsOrdered (node_tree (stored_of nodes cs ls) node)) where
@@ -39,6 +40,10 @@ module _ (nodes new : List Node) (facts now : List Facts) (cs : List Class) (ls 
   pub kept_by : (id : ℕ) → IsInterned nodes facts node fact id new now → Extends (stored_of nodes cs ls) (stored_of new cs ls)
   kept_by id (inl k) = rw k.nodes (extends-refl (stored_of nodes cs ls))
   kept_by id (inr k) = rw (k.nodes, pushed) (extends-push (stored_of nodes cs ls) (node_tree (stored_of nodes cs ls) node))
+
+  pub refs_by : (id : ℕ) → IsInterned nodes facts node fact id new now → (n : ℕ) → AreRefsBelow n (stored_of nodes cs ls) → HasRefsBelow n (node_tree (stored_of nodes cs ls) node) → AreRefsBelow n (stored_of new cs ls)
+  refs_by id (inl k) n a b = rw k.nodes a
+  refs_by id (inr k) n a b = rw (k.nodes, pushed) (refs-push (stored_of nodes cs ls) (node_tree (stored_of nodes cs ls) node) n a b)
 
   module _ (r : Result PatternId AllocError) (made : IfOk r (λ id. IsInterned nodes facts node fact id.0 new now)) (same : OnErr r (new ≡ nodes)) (same_facts : OnErr r (now ≡ facts)) where
     pub grown : IsPool new now (stored_of new cs ls)

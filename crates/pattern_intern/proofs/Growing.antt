@@ -18,6 +18,7 @@ use Rattle.pattern_intern.specs.declared.id.PatternId.{PatternId}
 use Rattle.pattern_intern.specs.declared.node.Node.{Node}
 use Rattle.pattern_intern.specs.declared.node.Node.TheVariants.{NotAllowed, Empty, AnyText, Ref, Value, DataType, Attribute, OneOrMore, Choice, Group, Interleave, After}
 use Rattle.pattern_intern.specs.Ordered.{IsOrdered}
+use Rattle.pattern_intern.specs.Schemas.{AreRefsBelow, HasRefsBelow}
 use Rattle.rng_model.specs.Depths.{in_choice, depth}
 use Rattle.pattern_intern.specs.Stored.{Stored, stored, count, tree_at, class_at, literal_at, AreApart, Extends}
 use Rattle.pattern_intern.specs.Facts.{IsFacts}
@@ -324,6 +325,14 @@ extends-push s p = record {
   more_literals = omega arith;
   literals = λ i l. refl;
 }
+
+-- references of the new tree
+pub refs-push : (s : Stored) (p : Pattern) (n : ℕ) → AreRefsBelow n s → HasRefsBelow n p → AreRefsBelow n (with_tree s p)
+refs-push s p n a b = record { each = λ i l. go i (last_or s.trees p i l) }
+  where
+    go : (i : ℕ) → (i < count s) ⊎ (i ≡ count s) → HasRefsBelow n (tree_at (with_tree s p) i)
+    go i (inl l) = rw (at_old s.trees p pattern.not_allowed i l) (a.each i l)
+    go i (inr e) = rw (e, at_new s.trees p pattern.not_allowed) b
 
 module _ (nodes : List Node) (facts : List Facts) (s : Stored) (h : IsPool nodes facts s) where
   -- a number's node

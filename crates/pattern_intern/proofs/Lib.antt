@@ -1,5 +1,6 @@
 mod Absent
 mod Growing
+mod Keeping
 mod Adding
 mod Starting
 mod Merging

@@ -14,12 +14,13 @@ use Rattle.pattern_intern.specs.declared.id.PatternId.{PatternId}
 use Rattle.pattern_intern.specs.declared.node.Node.{Node}
 use Rattle.pattern_intern.specs.declared.node.Node.TheVariants.{Value, Attribute}
 use Rattle.pattern_intern.specs.Ordered.{IsOrdered}
+use Rattle.pattern_intern.specs.Schemas.{AreRefsBelow, HasRefsBelow}
 use Rattle.pattern_intern.specs.Facts.{IsFacts}
 use Rattle.pattern_intern.specs.Stored.{Stored, stored, count, tree_at, AreApart, Extends}
 use Rattle.pattern_intern.specs.Trees.{node_tree, trees, stored_of, PartsBelow, IsPool}
 use Rattle.pattern_intern.specs.Interned.{IsTaken, IsInterned, IsAttributeTaken, IsValueTaken}
 use Rattle.pattern_intern.proofs.Growing.{extends-refl, extends-trans}
-use Rattle.pattern_intern.proofs.Adding.{grown_by, within_by, made_by, kept_by}
+use Rattle.pattern_intern.proofs.Adding.{grown_by, within_by, made_by, kept_by, refs_by}
 use Rattle.pattern_intern.proofs.Widening.{IsWider, wider_of, wide_trees, wide_pool, wide_extends}
 
 -- a pool that has got a pattern
@@ -28,9 +29,14 @@ pub record IsMade (p : Pattern) (new : List Node) (now : List Facts) (s t : Stor
   pub within : id < count t
   pub made : tree_at t id ≡ p
   pub kept : Extends s t
+  pub refs : (n : ℕ) → AreRefsBelow n s → HasRefsBelow n p → AreRefsBelow n t
 
 -- a wider pool, and a node over it
 module _ (nodes new : List Node) (facts now : List Facts) (cs ds : List Class) (ls ms : List Text) (h : IsPool nodes facts (stored_of nodes cs ls)) (x : Extends (stored_of nodes cs ls) (stored (trees cs ls nodes) ds ms)) (apart : AreApart (stored (trees cs ls nodes) ds ms)) (node : Node) (fact : Facts) (p : Pattern) (below : PartsBelow (count (stored_of nodes ds ms)) (stored_of nodes ds ms) node) (is : node_tree (stored_of nodes ds ms) node ≡ p) (described : IsFacts p fact) (o : IsOrdered p) where
+  wide_refs : (n : ℕ) → AreRefsBelow n (stored_of nodes cs ls) → AreRefsBelow n (stored_of nodes ds ms)
+  wide_refs n a =
+      record { each = subst (λ ps. (id : ℕ) → id < length ps → HasRefsBelow n (get_or ps id pattern.not_allowed)) (sym (wide_trees nodes facts cs ds ls ms h x apart)) a.each }
+
   wide_made : (id : ℕ) → IsInterned nodes facts node fact id new now → IsMade p new now (stored_of nodes cs ls) (stored_of new ds ms) id
   wide_made id t =
       let w = wide_pool nodes facts cs ds ls ms h x apart in
@@ -41,6 +47,7 @@ module _ (nodes new : List Node) (facts now : List Facts) (cs ds : List Class) (
         within = within_by nodes new facts now ds ms node fact w below f g id t;
         made = made_by nodes new facts now ds ms node fact w below f g id t ∙ is;
         kept = extends-trans (stored_of nodes cs ls) (stored_of nodes ds ms) (stored_of new ds ms) (wide_extends nodes facts cs ds ls ms h x apart) (kept_by nodes new facts now ds ms node fact w below f g id t);
+        refs = λ n a b. refs_by nodes new facts now ds ms node fact w below f g id t n (wide_refs n a) (subst (λ q. HasRefsBelow n q) (sym is) b);
       }
 
 same_map : {X : Type 0} (xs : List X) → map (λ y. y) xs ≡ xs
@@ -64,6 +71,10 @@ module _ (p : Pattern) (s t : Stored) (new : List Node) (now : List Facts) where
   pub kept_after : (r : Result PatternId AllocError) → IfOk r (λ id. IsMade p new now s t id.0) → OnErr r (t ≡ s) → Extends s t
   kept_after (Ok id) m e = m.kept
   kept_after (Err x) m e = rw e (extends-refl s)
+
+  pub refs_after : (r : Result PatternId AllocError) → IfOk r (λ id. IsMade p new now s t id.0) → OnErr r (t ≡ s) → (n : ℕ) → HasRefsBelow n p → AreRefsBelow n s → AreRefsBelow n t
+  refs_after (Ok id) m e n b a = m.refs n a b
+  refs_after (Err x) m e n b a = rw e a
 
 module _ (nodes new : List Node) (facts now : List Facts) (cs ds : List NameClass) (ls : List Text) (class : NameClass) (content : PatternId) (fact : Facts) (h : IsPool nodes facts (stored_of nodes (map class_of cs) ls)) (below : content.0 < count (stored_of nodes (map class_of cs) ls)) (described : IsFacts (pattern.attribute (class_of class) (tree_at (stored_of nodes (map class_of cs) ls) content.0)) fact) where
   made_attribute : (id : ℕ) → IsAttributeTaken cs nodes facts class content fact id ds new now →

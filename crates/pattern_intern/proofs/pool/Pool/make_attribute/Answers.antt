@@ -3,7 +3,7 @@ use Rattle.rng_model.specs.Patterns.{attribute}
 use Rattle.name_classes.specs.Views.{class_of}
 use Rattle.pattern_intern.specs.Facts.{IsFacts}
 use Rattle.pattern_intern.specs.Stored.{count, tree_at}
-use Rattle.pattern_intern.proofs.Taking.{pool_after, within_after, made_after, kept_after, after_refusal, attribute_made}
+use Rattle.pattern_intern.proofs.Taking.{pool_after, within_after, made_after, kept_after, refs_after, after_refusal, attribute_made}
 use Rattle.pattern_intern.proofs.pool.Pool.make_attribute.Goals as goal
 
 pub invariant_of-self : goal.invariant_of-self
@@ -17,3 +17,6 @@ returns-clause-made c = rw (← c.self.view_is) (made_after _ _ _ _ _ c.intern_a
 
 pub returns-clause-kept : goal.returns-clause-kept
 returns-clause-kept c = rw (← c.self.view_is) (kept_after _ _ _ _ _ c.intern_attribute.result (attribute_made _ _ _ _ _ _ _ c.args.class c.args.content c.args.fact c.self.invariant (subst (λ s. c.args.content.0 < count s) (sym c.self.view_is) c.requires.below) (subst (λ s. IsFacts (attribute (class_of c.args.class) (tree_at s c.args.content.0)) c.args.fact) (sym c.self.view_is) c.requires.facts) c.intern_attribute.result c.intern_attribute.ensures.made) (after_refusal c.intern_attribute.result c.intern_attribute.ensures.classes_kept c.intern_attribute.ensures.nodes_kept c.intern_attribute.ensures.facts_kept (λ k n f. rw (k, n) refl)))
+
+pub returns-clause-refs : goal.returns-clause-refs
+returns-clause-refs c = rw (← c.self.view_is) (λ n a. refs_after _ _ _ _ _ c.intern_attribute.result (attribute_made _ _ _ _ _ _ _ c.args.class c.args.content c.args.fact c.self.invariant (subst (λ s. c.args.content.0 < count s) (sym c.self.view_is) c.requires.below) (subst (λ s. IsFacts (attribute (class_of c.args.class) (tree_at s c.args.content.0)) c.args.fact) (sym c.self.view_is) c.requires.facts) c.intern_attribute.result c.intern_attribute.ensures.made) (after_refusal c.intern_attribute.result c.intern_attribute.ensures.classes_kept c.intern_attribute.ensures.nodes_kept c.intern_attribute.ensures.facts_kept (λ k n f. rw (k, n) refl)) n (a.each _ (subst (λ s. c.args.content.0 < count s) (sym c.self.view_is) c.requires.below)) a)

@@ -3,7 +3,7 @@ use Rattle.rng_model.specs.Patterns.{attribute}
 use Rattle.name_classes.specs.Views.{class_of}
 use Rattle.pattern_intern.specs.Facts.{IsFacts}
 use Rattle.pattern_intern.specs.Stored.{count, tree_at}
-use Rattle.pattern_intern.proofs.Taking.{pool_after, within_after, made_after, kept_after, after_refusal, value_made}
+use Rattle.pattern_intern.proofs.Taking.{pool_after, within_after, made_after, kept_after, refs_after, after_refusal, value_made}
 use Rattle.pattern_intern.proofs.pool.Pool.make_value.Goals as goal
 
 pub invariant_of-self : goal.invariant_of-self
@@ -17,3 +17,6 @@ returns-clause-made c = (made_after _ _ _ _ _ c.intern_value.result (value_made 
 
 pub returns-clause-kept : goal.returns-clause-kept
 returns-clause-kept c = rw (← c.self.view_is) (kept_after _ _ _ _ _ c.intern_value.result (value_made _ _ _ _ _ _ _ c.args.kind c.args.literal c.args.fact c.self.invariant c.requires.facts c.intern_value.result c.intern_value.ensures.made) (after_refusal c.intern_value.result c.intern_value.ensures.literals_kept c.intern_value.ensures.nodes_kept c.intern_value.ensures.facts_kept (λ k n f. rw (k, n) refl)))
+
+pub returns-clause-refs : goal.returns-clause-refs
+returns-clause-refs c = rw (← c.self.view_is) (λ n a. refs_after _ _ _ _ _ c.intern_value.result (value_made _ _ _ _ _ _ _ c.args.kind c.args.literal c.args.fact c.self.invariant c.requires.facts c.intern_value.result c.intern_value.ensures.made) (after_refusal c.intern_value.result c.intern_value.ensures.literals_kept c.intern_value.ensures.nodes_kept c.intern_value.ensures.facts_kept (λ k n f. rw (k, n) refl)) n tt a)
