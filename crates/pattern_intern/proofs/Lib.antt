@@ -4,6 +4,7 @@ mod Keeping
 mod Adding
 mod Starting
 mod Merging
+mod Least
 mod Comparing
 mod Describing
 mod Widening

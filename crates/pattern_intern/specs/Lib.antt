@@ -4,5 +4,6 @@ pub mod Schemas
 pub mod Facts
 pub mod Trees
 pub mod Interned
+pub mod Members
 pub mod Comparisons
 pub mod Steps

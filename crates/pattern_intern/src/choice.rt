@@ -1,10 +1,11 @@
 // Choices: the ascending list of the members, each once.
-ghost use Rattle.std.specs.Prelude.{◌≡◌, ℕ, ◌<◌, ◌∷◌, IfOk, IfNone, IfSome, OnErr};
+ghost use Rattle.std.specs.Prelude.{◌≡◌, ℕ, ◌<◌, ◌⊎◌, ◌∷◌, ◌++◌, IfOk, IfNone, IfSome, OnErr};
 ghost use Rattle.rng_model.specs.Constructors.{choice_of, members, of_members};
 ghost use Rattle.rng_model.specs.Patterns as pattern;
 ghost use Rattle.pattern_intern.specs.Ordered.{IsBelow, IsMember, IsOrdered, IsSplit};
 ghost use Rattle.pattern_intern.specs.Schemas.{AreRefsBelow};
 ghost use Rattle.pattern_intern.specs.Stored.{Extends, count, tree_at};
+ghost use Rattle.pattern_intern.specs.Members.{AreIn, AreMembers, IsLeast, IsMerged, trees_at};
 
 use crate::id::PatternId;
 use crate::node::Node;
@@ -54,6 +55,73 @@ impl Pool {
         }
     }
 
+    // The least member of both, and both without it.
+    fn least(&self, a: PatternId, b: PatternId) -> Option<(PatternId, PatternId, PatternId)>
+        requires left { a.0 < count self.now }
+        requires right { b.0 < count self.now }
+        ensures none { IfNone result ((tree_at self.now a.0 ≡ pattern.not_allowed) ⊎ (tree_at self.now b.0 ≡ pattern.not_allowed)) }
+        ensures least { IfSome result (λ r. IsLeast self.now a.0 b.0 r.0.0 r.1.0 r.2.0) }
+    {
+        match (self.split(a), self.split(b)) {
+            (None, _) => None,
+            (_, None) => None,
+            (Some((p, ps)), Some((q, qs))) => match self.compare(p, q) {
+                Ordering::Less => Some((p, ps, b)),
+                Ordering::Equal => Some((p, ps, qs)),
+                Ordering::Greater => Some((q, a, qs)),
+            },
+        }
+    }
+
+    // The least members of both, and a side whose members are the others.
+    fn merged(
+        &self,
+        a: PatternId,
+        b: PatternId,
+    ) -> Result<(Vec<PatternId>, PatternId), AllocError>
+        requires left { a.0 < count self.now }
+        requires right { b.0 < count self.now }
+        ensures { IfOk result (λ r. IsMerged self.now (tree_at self.now a.0) (tree_at self.now b.0) r.0.items r.1.0) }
+    {
+        self.all_ordered();
+        let mut taken = Vec::new(self.allocator());
+        let (mut left, mut right) = (a, b);
+        while let Some((first, lefts, rights)) = self.least(left, right) {
+            taken.push(first)?;
+            left = lefts;
+            right = rights;
+        }
+        let rest = match self.split(left) {
+            None => right,
+            Some(_) => left,
+        };
+        Ok((taken, rest))
+    }
+
+    // The choice of ascending members and the members of a pattern, from the greatest on. After want of memory some of its last
+    // members may be made.
+    fn join_all(
+        &mut self,
+        taken: Vec<PatternId>,
+        others: PatternId,
+    ) -> Result<PatternId, AllocError>
+        requires taken { AreIn self.old taken.items }
+        requires others { others.0 < count self.old }
+        requires members { AreMembers (trees_at self.old taken.items ++ members (tree_at self.old others.0)) }
+        ensures within { IfOk result (λ id. id.0 < count self.new) }
+        ensures made { IfOk result (λ id. tree_at self.new id.0 ≡ of_members (trees_at self.old taken.items ++ members (tree_at self.old others.0))) }
+        ensures kept { Extends self.old self.new }
+        ensures refs { (n : ℕ) → AreRefsBelow n self.old → AreRefsBelow n self.new }
+        ensures same { (self.new.classes ≡ self.old.classes) × (self.new.literals ≡ self.old.literals) }
+    {
+        let (mut taken, mut rest) = (taken, others);
+        while let Some(first) = taken.pop() {
+            rest = self.join(first, rest)?;
+        }
+        self.all_ordered();
+        Ok(rest)
+    }
+
     // The choice of both. After want of memory some of its last members may be made.
     fn merge(&mut self, a: PatternId, b: PatternId) -> Result<PatternId, AllocError>
         requires left { a.0 < count self.old }
@@ -64,24 +132,9 @@ impl Pool {
         ensures refs { (n : ℕ) → AreRefsBelow n self.old → AreRefsBelow n self.new }
         ensures same { (self.new.classes ≡ self.old.classes) × (self.new.literals ≡ self.old.literals) }
     {
-        match (self.split(a), self.split(b)) {
-            (None, _) => Ok(b),
-            (_, None) => Ok(a),
-            (Some((p, ps)), Some((q, qs))) => match self.compare(p, q) {
-                Ordering::Less => {
-                    let rest = self.merge(ps, b)?;
-                    self.join(p, rest)
-                }
-                Ordering::Equal => {
-                    let rest = self.merge(ps, qs)?;
-                    self.join(p, rest)
-                }
-                Ordering::Greater => {
-                    let rest = self.merge(a, qs)?;
-                    self.join(q, rest)
-                }
-            },
-        }
+        self.all_ordered();
+        let (taken, rest) = self.merged(a, b)?;
+        self.join_all(taken, rest)
     }
 
     /// Either of two patterns (section Patterns of Semantics): the members of both in ascending order, each once. It costs as many steps as
