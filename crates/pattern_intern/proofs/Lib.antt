@@ -1,6 +1,8 @@
 mod Absent
 mod Growing
 mod Keeping
+mod Marking
+mod Searching
 mod Adding
 mod Starting
 mod Merging

@@ -5,5 +5,6 @@ pub mod Facts
 pub mod Trees
 pub mod Interned
 pub mod Members
+pub mod Marks
 pub mod Comparisons
 pub mod Steps

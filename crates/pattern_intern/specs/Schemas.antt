@@ -50,9 +50,12 @@ schema_of s start entries = record { start = tree_at s start; elements = map (de
 abbrev pub numbered_of : Stored → ℕ → List Entry → Numbered
 numbered_of s start entries = record { schema = schema_of s start entries; pool = s }
 
--- the contents are numbers of the pool
-pub record AreWithin (s : Stored) (entries : List Entry) : Type 0 where
-  pub each : (k : ℕ) (x : Entry) → slice_get entries k ≡ Some x → x.1 < count s
+-- the contents are numbers below n
+pub record AreBelow (n : ℕ) (entries : List Entry) : Type 0 where
+  pub each : (k : ℕ) (x : Entry) → slice_get entries k ≡ Some x → x.1 < n
+
+abbrev pub AreWithin : Stored → List Entry → Type 0
+AreWithin s entries = AreBelow (count s) entries
 
 -- the definition of a number
 abbrev pub definition_at : Numbered → ℕ → Definition

@@ -7,6 +7,7 @@ mod constructors;
 mod facts;
 mod id;
 mod intern;
+mod literals;
 mod node;
 mod pool;
 mod schema;

@@ -2,15 +2,18 @@
 ghost use Rattle.std.specs.Prelude.{◌≡◌, ℕ, ◌<◌, [], ◌∷◌, ◌++◌, length, IfOk, OnErr, OnOk};
 ghost use Rattle.rng_model.specs.Constructors.{after_of, choice_of, group_of, interleave_of, one_or_more_of};
 ghost use Rattle.rng_model.specs.Patterns.{IsSimpleForm};
+ghost use Rattle.rng_model.specs.Universe.{AreLiterals};
 ghost use Rattle.name_classes.specs.Views.{class_of};
 ghost use Rattle.pattern_intern.specs.Schemas.{AreRefsBelow, AreWithin, IsNumbered, definition_at, entry_at, numbered_of, schema_of};
 ghost use Rattle.pattern_intern.specs.Stored.{Extends, count, tree_at};
 
 use crate::id::PatternId;
+use crate::literals::{roots, unmarked, visit};
 use crate::pool::Pool;
 use name_classes::NameClass;
 use std::alloc::{AllocError, Global};
 use std::marker::Model;
+use text_atoms::Literals;
 
 /// Element definitions in order: the name class of each, and the number of its content.
 #[derive(Drop)]
@@ -65,8 +68,8 @@ impl Definitions {
         &self.items.as_slice()[k].0
     }
 
-    // The number of a definition's content.
-    fn content(&self, k: usize) -> PatternId
+    /// The number of a definition's content.
+    pub(crate) fn content(&self, k: usize) -> PatternId
         requires { k < length self.now }
         ensures { result.0 ≡ (entry_at self.now k).1 }
     {
@@ -156,6 +159,30 @@ impl Schema {
         ensures { result.now ≡ self.now.pool }
     {
         &self.pool
+    }
+
+    /// The literals of the values in the start and the contents, whether an `empty` stands inside an attribute, and the kinds of values
+    /// and datatypes, excepts included. Each number of the pool is visited once.
+    pub fn literals(&self, alloc: Global) -> Result<Literals, AllocError>
+        ensures { IfOk result (λ l. AreLiterals self.now.schema l) }
+    {
+        let len = self.pool.len();
+        let mut reached = roots(alloc, len, self.start, &self.elements)?;
+        let mut inside = unmarked(alloc, len)?;
+        let mut literals = Literals::new(alloc);
+        let mut next = len;
+        while next > 0 {
+            next -= 1;
+            visit(
+                alloc,
+                &self.pool,
+                PatternId(next),
+                &mut reached,
+                &mut inside,
+                &mut literals,
+            )?;
+        }
+        Ok(literals)
     }
 
     /// The allocator that the pool takes its memory from.
