@@ -1,6 +1,8 @@
 //! Benchmarks that are run by hand: `benchmarks NAME` times one, and without a name they are listed. No figure is asserted.
 #![tactic(auto)]
 
+use name_classes::{Name, NameClass};
+use pattern_intern::Pool;
 use rnc_lexer::lex;
 use std::alloc::{AllocError, Global};
 use std::time::Instant;
@@ -12,6 +14,12 @@ const SCHEMA: usize = 1_048_576;
 
 /// The literals whose atoms are made and grouped, of 50 bytes each.
 const LITERALS: u32 = 20_000;
+
+/// The calls of constructors of patterns.
+const CALLS: usize = 200_000;
+
+/// The attributes that are joined to a group.
+const ATTRIBUTES: u32 = 1_000;
 
 /// What the schema of a benchmark of the lexer is filled with.
 fn piece_of(name: &str) -> Option<&'static str> {
@@ -53,11 +61,74 @@ fn literals(alloc: Global) -> Result<Literals, AllocError> {
     Ok(literals)
 }
 
+/// Calls of the pool's constructors of patterns, of mixed kinds.
+fn mixed(alloc: Global, pool: &mut Pool) -> io::Result<()> {
+    let class = NameClass::Any(None);
+    let mut last = pool.any_text();
+    for number in 0..CALLS {
+        let text = pool.any_text();
+        last = match number % 8 {
+            0 => pool.reference(number)?,
+            1 => pool.value(Kind::Token, format!(in alloc; "{number}")?.as_str())?,
+            2 => pool.attribute(&class, last)?,
+            3 => pool.one_or_more(last)?,
+            4 => pool.choice(last, text)?,
+            5 => pool.group(last, last)?,
+            6 => pool.interleave(last, text)?,
+            _ => pool.after(last, text)?,
+        };
+    }
+    Ok(())
+}
+
+/// A choice of literals, made from the greatest down.
+fn choice(alloc: Global, pool: &mut Pool) -> io::Result<()> {
+    let mut others = pool.not_allowed();
+    for number in 0..LITERALS {
+        let text = format!(in alloc; "{:010}", LITERALS - number)?;
+        let literal = pool.value(Kind::Token, text.as_str())?;
+        others = pool.choice(literal, others)?;
+    }
+    Ok(())
+}
+
+/// A group of attributes, joined from the left.
+fn group(alloc: Global, pool: &mut Pool) -> io::Result<()> {
+    let mut others = pool.empty();
+    for number in 0..ATTRIBUTES {
+        let local = format!(in alloc; "a{number}")?;
+        let Ok(name) = Name::new(Text::from_string(String::new(alloc)), Text::from_string(local))
+        else {
+            return Ok(());
+        };
+        let text = pool.any_text();
+        let attribute = pool.attribute(&NameClass::One(name), text)?;
+        others = pool.group(others, attribute)?;
+    }
+    Ok(())
+}
+
+/// Times a benchmark of the pool of patterns, and says how many nodes it made. False where it isn't one.
+fn time_pool(rt: &HostRuntime, name: &str) -> io::Result<bool> {
+    let alloc = rt.alloc();
+    let mut pool = Pool::new(alloc)?;
+    let start = Instant::now(rt)?;
+    match name {
+        "pool-mixed" => mixed(alloc, &mut pool)?,
+        "pool-choice" => choice(alloc, &mut pool)?,
+        "pool-group" => group(alloc, &mut pool)?,
+        _ => return Ok(false),
+    }
+    let micros = start.elapsed(rt)?.as_micros();
+    println!(rt; "{name}: {} nodes in {micros} microseconds", pool.len())?;
+    Ok(true)
+}
+
 fn main(rt: HostRuntime) -> io::Result<()> {
     let alloc = rt.alloc();
     let Some(name) = env::args(&rt)?.nth(1) else {
         println!(rt;
-            "lex-short-tokens lex-comment lex-elements lex-quotes lex-escaped-names lex-escapes atoms alike"
+            "lex-short-tokens lex-comment lex-elements lex-quotes lex-escaped-names lex-escapes atoms alike pool-mixed pool-choice pool-group"
         )?;
         return Ok(());
     };
@@ -70,6 +141,9 @@ fn main(rt: HostRuntime) -> io::Result<()> {
         };
         let micros = start.elapsed(&rt)?.as_micros();
         println!(rt; "{name}: {count} tokens in {micros} microseconds")?;
+        return Ok(());
+    }
+    if time_pool(&rt, name.as_str())? {
         return Ok(());
     }
     let literals = literals(alloc)?;

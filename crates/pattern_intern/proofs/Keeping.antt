@@ -1,8 +1,14 @@
 -- A schema keeps its start and definitions while its pool grows.
-use Rattle.std.proofs.Common.{◌≡◌, ℕ, zero, suc, ◌<◌, ◌≤◌, Some, List, [], ◌∷◌, length, map, slice_get, refl, sym, ap, subst, arith}
-use Rattle.rng_model.specs.Patterns.{Schema, IsSimpleForm}
-use Rattle.pattern_intern.specs.Schemas.{Entry, AreRefsBelow, AreWithin, IsSchema, definition_of, schema_of}
-use Rattle.pattern_intern.specs.Stored.{Stored, count, tree_at, Extends}
+use Rattle.std.proofs.Common.{◌≡◌, ℕ, zero, suc, ◌<◌, ◌≤◌, ◌⊎◌, inl, inr, Some, List, [], ◌∷◌, ◌++◌, length, map, slice_get, refl, sym, ap, subst, arith}
+use Rattle.std.proofs.lemmas.List.{map-append}
+use Rattle.name_classes.specs.declared.class.NameClass.{NameClass}
+use Rattle.name_classes.specs.Views.{class_of}
+use Rattle.pattern_intern.specs.declared.id.PatternId.{PatternId}
+use Rattle.rng_model.specs.Patterns.{Schema, Definition, IsSimpleForm, HasNoAfter}
+use Rattle.rng_model.specs.Patterns as pattern
+use Rattle.pattern_intern.proofs.Growing.{slice_get-push}
+use Rattle.pattern_intern.specs.Schemas.{Entry, AreBelow, HasRefsBelow, AreRefsBelow, AreWithin, IsSchema, definition_of, schema_of}
+use Rattle.pattern_intern.specs.Stored.{Stored, stored, count, tree_at, Extends}
 
 definitions_kept : (s t : Stored) → Extends s t → (xs : List Entry) → AreWithin s xs → map (definition_of t) xs ≡ map (definition_of s) xs
 definitions_kept s t x [] w = refl
@@ -22,3 +28,35 @@ module _ (s t : Stored) (start : ℕ) (xs : List Entry) (h : IsSchema s start xs
     form = subst (λ g. IsSimpleForm g) (sym schema_kept) h.form;
     refs = refs (length xs) h.refs;
   }
+
+-- definitions are added
+pub none_below : (n : ℕ) → AreBelow n []
+none_below n = record { each = λ k x e. absurd (cc) }
+
+pub one_more_below : (n : ℕ) (xs : List Entry) (x : Entry) → AreBelow n xs → x.1 < n → AreBelow n (xs ++ x ∷ [])
+one_more_below n xs x h l = record { each = λ k y e. go y (slice_get-push xs x y k e) }
+  where
+    go : (y : Entry) → {k : ℕ} → (slice_get xs k ≡ Some y) ⊎ ((k ≡ length xs) × (x ≡ y)) → y.1 < n
+    go y {k} (inl e) = h.each k y e
+    go y (inr e) = subst (λ (z : Entry). z.1 < n) e.1 l
+
+pub pushed_below : (old new : List (NameClass × PatternId)) (x : NameClass × PatternId) → new ≡ old ++ x ∷ [] → (n : ℕ) → AreBelow n (map (λ y. (class_of y.0, y.1.0)) old) → x.1.0 < n → AreBelow n (map (λ y. (class_of y.0, y.1.0)) new)
+pushed_below old new x e n h l = rw (e, map-append {B = Entry} (λ (y : NameClass × PatternId). (class_of y.0, y.1.0)) old (x ∷ [])) (one_more_below n (map (λ y. (class_of y.0, y.1.0)) old) (class_of x.0, x.1.0) h l)
+
+-- the first three patterns have no references
+pub first_refs : (n : ℕ) → AreRefsBelow n (stored (pattern.not_allowed ∷ pattern.empty ∷ pattern.text ∷ []) [] [])
+first_refs n = record { each = go }
+  where
+    go : (id : ℕ) → id < 3 → HasRefsBelow n (tree_at (stored (pattern.not_allowed ∷ pattern.empty ∷ pattern.text ∷ []) [] []) id)
+    go zero l = tt
+    go (suc zero) l = tt
+    go (suc (suc zero)) l = tt
+    go (suc (suc (suc k))) l = absurd (omega (arith, l))
+
+-- a schema of one element
+pub one_form : (s : Stored) (start : ℕ) (xs : List Entry) (x : Entry) → xs ≡ x ∷ [] → HasNoAfter (tree_at s start) → HasNoAfter (tree_at s x.1) → IsSimpleForm (schema_of s start xs)
+one_form s start xs x e h k = rw e record { start = h; contents = go }
+  where
+    go : (d : ℕ) (e : Definition) → slice_get (definition_of s x ∷ []) d ≡ Some e → HasNoAfter e.content
+    go zero e f = let same : definition_of s x ≡ e = cc in subst (λ y. HasNoAfter y.content) same k
+    go (suc d) e f = absurd (cc)

@@ -79,21 +79,8 @@ impl Pool {
                 }
             }
             Node::Choice(first, others) => self.facts_of_choice(first, others),
-            Node::Group(left, right) => {
-                let (left, right) = (self.facts_at(left), self.facts_at(right));
-                Facts {
-                    nullable: left.nullable && right.nullable,
-                    depth: left.depth.max(right.depth) + 1,
-                    content_type: grouped(left.content_type, right.content_type),
-                }
-            }
-            Node::Interleave(left, right) => {
-                let (left, right) = (self.facts_at(left), self.facts_at(right));
-                Facts {
-                    nullable: left.nullable && right.nullable,
-                    depth: left.depth.max(right.depth) + 1,
-                    content_type: grouped(left.content_type, right.content_type),
-                }
+            Node::Group(left, right) | Node::Interleave(left, right) => {
+                self.facts_of_two(left, right)
             }
             Node::After(left, right) => Facts {
                 nullable: false,
@@ -119,6 +106,23 @@ impl Pool {
             nullable: false,
             depth: known.depth + 1,
             content_type,
+        }
+    }
+
+    // What is known of a group and of an interleave.
+    #[tactic(auto, unfolding(rng_model::specs::Matching::nullable))]
+    fn facts_of_two(&self, left: PatternId, right: PatternId) -> Facts
+        requires left { left.0 < count self.now }
+        requires right { right.0 < count self.now }
+        ensures group { IsFacts (pattern.group (tree_at self.now left.0) (tree_at self.now right.0)) result }
+        ensures interleave { IsFacts (pattern.interleave (tree_at self.now left.0) (tree_at self.now right.0)) result }
+    {
+        let _small = self.len();
+        let (left, right) = (self.facts_at(left), self.facts_at(right));
+        Facts {
+            nullable: left.nullable && right.nullable,
+            depth: left.depth.max(right.depth) + 1,
+            content_type: grouped(left.content_type, right.content_type),
         }
     }
 
@@ -153,6 +157,25 @@ impl Pool {
         self.add(node, fact)
     }
 
+    // What stands for a group or an interleave of two: notAllowed where a side is, the other side where one is empty.
+    fn alone(&self, a: PatternId, b: PatternId) -> Option<PatternId>
+        requires left { a.0 < count self.now }
+        requires right { b.0 < count self.now }
+        ensures within { IfSome result (λ id. id.0 < count self.now) }
+        ensures group { IfSome result (λ id. tree_at self.now id.0 ≡ group_of (tree_at self.now a.0) (tree_at self.now b.0)) }
+        ensures interleave { IfSome result (λ id. tree_at self.now id.0 ≡ interleave_of (tree_at self.now a.0) (tree_at self.now b.0)) }
+        ensures group_of_both { IfNone result (group_of (tree_at self.now a.0) (tree_at self.now b.0) ≡ pattern.group (tree_at self.now a.0) (tree_at self.now b.0)) }
+        ensures interleave_of_both { IfNone result (interleave_of (tree_at self.now a.0) (tree_at self.now b.0) ≡ pattern.interleave (tree_at self.now a.0) (tree_at self.now b.0)) }
+    {
+        match (self.node(a), self.node(b)) {
+            (Node::NotAllowed, _) => Some(a),
+            (_, Node::NotAllowed) => Some(b),
+            (Node::Empty, _) => Some(b),
+            (_, Node::Empty) => Some(a),
+            _ => None,
+        }
+    }
+
     /// One after the other (section Patterns of Semantics). Where memory is wanting, the pool stays as before, as for all that follow.
     pub fn group(&mut self, a: PatternId, b: PatternId) -> Result<PatternId, AllocError>
         requires left { a.0 < count self.old }
@@ -163,12 +186,9 @@ impl Pool {
         ensures refs { (n : ℕ) → AreRefsBelow n self.old → AreRefsBelow n self.new }
         ensures unchanged { OnErr result (self.new ≡ self.old) }
     {
-        match (self.node(a), self.node(b)) {
-            (Node::NotAllowed, _) => Ok(a),
-            (_, Node::NotAllowed) => Ok(b),
-            (Node::Empty, _) => Ok(b),
-            (_, Node::Empty) => Ok(a),
-            _ => self.make(Node::Group(a, b)),
+        match self.alone(a, b) {
+            Some(id) => Ok(id),
+            None => self.make(Node::Group(a, b)),
         }
     }
 
@@ -182,12 +202,9 @@ impl Pool {
         ensures refs { (n : ℕ) → AreRefsBelow n self.old → AreRefsBelow n self.new }
         ensures unchanged { OnErr result (self.new ≡ self.old) }
     {
-        match (self.node(a), self.node(b)) {
-            (Node::NotAllowed, _) => Ok(a),
-            (_, Node::NotAllowed) => Ok(b),
-            (Node::Empty, _) => Ok(b),
-            (_, Node::Empty) => Ok(a),
-            _ => self.make(Node::Interleave(a, b)),
+        match self.alone(a, b) {
+            Some(id) => Ok(id),
+            None => self.make(Node::Interleave(a, b)),
         }
     }
 

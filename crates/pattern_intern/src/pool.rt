@@ -50,7 +50,8 @@ impl Model for Pool {
 impl Pool {
     /// A pool of notAllowed, empty and text. It takes its memory from `alloc`.
     pub fn new(alloc: Global) -> Result<Pool, AllocError>
-        ensures { IfOk result (λ p. p ≡ stored (pattern.not_allowed ∷ pattern.empty ∷ pattern.text ∷ []) [] []) }
+        ensures three { IfOk result (λ p. p ≡ stored (pattern.not_allowed ∷ pattern.empty ∷ pattern.text ∷ []) [] []) }
+        ensures refs { IfOk result (λ p. (n : ℕ) → AreRefsBelow n p) }
     {
         let mut nodes = IndexSet::new(alloc);
         let mut facts = Vec::new(alloc);

@@ -4,7 +4,7 @@ ghost use Rattle.rng_model.specs.Constructors.{after_of, choice_of, group_of, in
 ghost use Rattle.rng_model.specs.Patterns.{IsSimpleForm};
 ghost use Rattle.rng_model.specs.Universe.{AreLiterals};
 ghost use Rattle.name_classes.specs.Views.{class_of};
-ghost use Rattle.pattern_intern.specs.Schemas.{AreRefsBelow, AreWithin, IsNumbered, definition_at, entry_at, numbered_of, schema_of};
+ghost use Rattle.pattern_intern.specs.Schemas.{AreBelow, AreRefsBelow, AreWithin, IsNumbered, definition_at, entry_at, numbered_of, schema_of};
 ghost use Rattle.pattern_intern.specs.Stored.{Extends, count, tree_at};
 
 use crate::id::PatternId;
@@ -37,7 +37,8 @@ impl Model for Definitions {
 impl Definitions {
     /// No definition. It takes its memory from `alloc` as it grows.
     pub fn new(alloc: Global) -> Definitions
-        ensures { result ≡ [] }
+        ensures none { result ≡ [] }
+        ensures below { (n : ℕ) → AreBelow n result }
     {
         Definitions {
             items: Vec::new(alloc),
@@ -47,6 +48,7 @@ impl Definitions {
     /// Adds a definition at the end. Where memory is wanting, the list stays as before and the class is dropped.
     pub fn push(&mut self, class: NameClass, content: PatternId) -> Result<(), AllocError>
         ensures ok { OnOk result (self.new ≡ self.old ++ (class_of class, content.0) ∷ []) }
+        ensures below { OnOk result ((n : ℕ) → AreBelow n self.old → content.0 < n → AreBelow n self.new) }
         ensures err { OnErr result (self.new ≡ self.old) }
     {
         self.items.push((class, content))?;
