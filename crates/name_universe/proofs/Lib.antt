@@ -1,2 +1,10 @@
 pub mod Parts
 pub mod Named
+pub mod NameSets
+pub mod ClassParts
+pub mod Numbered
+pub mod Counting
+pub mod Putting
+pub mod Popping
+pub mod Tables
+pub mod Finding

@@ -1,6 +1,13 @@
 //! Overlaps of name classes, and the finite lists of names that a schema's name classes give.
 #![tactic(auto)]
 
+mod fresh;
+mod mentions;
+mod name_list;
+mod names;
+mod origin;
 mod overlaps;
 
+pub use name_list::NameList;
+pub use origin::Origin;
 pub use overlaps::overlap;
