@@ -8,3 +8,4 @@ pub mod Putting
 pub mod Popping
 pub mod Tables
 pub mod Finding
+pub mod Standing

@@ -1,16 +1,17 @@
 // One list of a universe: its names with their origins, and the names that stand for others.
 ghost use Rattle.std.specs.List.{AllByRecursion};
-ghost use Rattle.std.specs.Prelude.{◌≡◌, ℕ, ◌≤◌, ◌<◌, ◌++◌, Contains, IfOk, OnOk, IfSome, IfNone, Some, length, map, slice_get, codes};
+ghost use Rattle.std.specs.Prelude.{◌≡◌, ◌≢◌, ℕ, ◌≤◌, ◌<◌, ◌++◌, Contains, IfOk, OnOk, IfSome, IfNone, Some, length, map, slice_get, codes};
 ghost use Rattle.std.specs.List.Sorted.{IsStrictlySortedBy};
 ghost use Rattle.std.specs.Ordering.{nat_cmp};
 ghost use Rattle.std.specs.Cmp.Lexicographic.{slice_cmp};
 ghost use Rattle.rng_model.specs.Texts.{Text as TextValue};
 ghost use Rattle.rng_model.specs.Names.{Name as NameValue, IsName, name_cmp};
 ghost use Rattle.rng_model.specs.Patterns.{Schema};
-ghost use Rattle.rng_model.specs.Universe.{IsElementClass, IsAttributeClass};
+ghost use Rattle.rng_model.specs.Universe.{IsElementClass, IsAttributeClass, IsMentioned};
 ghost use Rattle.rng_model.specs.Fresh.{IsFirstFree, IsAmongFree};
 ghost use Rattle.name_universe.specs.Sets.{IsTakenIn, Puts, origin_in};
 ghost use Rattle.name_universe.specs.Tables.{AreMentions, IsTableOf, IsStandIn, StandsAt, spaces_of};
+ghost use Rattle.name_universe.specs.declared.origin.Origin.{Origin as OriginValue};
 ghost use Rattle.name_universe.specs.declared.origin.Origin.TheVariants.{Mentioned, FreshLocal};
 
 use crate::fresh::{first_fresh, fresh_space, put, put_fresh};
@@ -99,6 +100,7 @@ fn split(
 fn position(names: &[Name], name: &Name) -> Option<usize>
     requires { IsStrictlySortedBy name_cmp names.now }
     ensures found { IfSome result (λ i. slice_get names.now i ≡ Some name.now) }
+    ensures within { IfSome result (λ i. i < length names.now) }
     ensures absent { IfNone result (Contains names.now name.now → ⊥) }
 {
     names.binary_search_by(|other| other.cmp(name)).ok()
@@ -164,6 +166,7 @@ impl Names {
     /// The position of a name, which is none where it isn't in the list.
     pub(crate) fn find(&self, name: &Name) -> Option<usize>
         ensures found { IfSome result (λ i. slice_get self.now.names i ≡ Some name.now) }
+        ensures within { IfSome result (λ i. i < length self.now.names) }
         ensures absent { IfNone result (Contains self.now.names name.now → ⊥) }
     {
         position(self.names.as_slice(), name)
@@ -180,21 +183,51 @@ impl Names {
         }
     }
 
-    /// The position of the name that stands for a name: a mentioned name stands for itself, another name of a mentioned namespace
-    /// for the first fresh name of that namespace, and every other name for `x` in the fresh namespace.
-    pub(crate) fn stands_for(&self, name: &Name) -> usize
-        ensures within { result < length self.now.names }
-        ensures elements { (g : Schema) (fresh : ℕ) → IsTableOf (IsElementClass g) fresh self.now → StandsAt (IsElementClass g) self.now.names name.now result }
-        ensures attributes { (g : Schema) (fresh : ℕ) → IsTableOf (IsAttributeClass g) fresh self.now → StandsAt (IsAttributeClass g) self.now.names name.now result }
+    // The position, if the name there is mentioned.
+    fn if_mentioned(&self, position: usize) -> Option<usize>
+        requires { position < length self.now.names }
+        ensures mentioned { IfSome result (λ i. (i ≡ position) × (slice_get self.now.origins i ≡ Some Mentioned)) }
+        ensures other { IfNone result ((o : OriginValue) × (slice_get self.now.origins position ≡ Some o) × (o ≢ Mentioned)) }
     {
-        if let Some(position) = self.find(name) {
-            if let Origin::Mentioned = self.origins[position] {
-                return position;
-            }
+        match self.origin(position) {
+            Origin::Mentioned => Some(position),
+            Origin::FreshLocal => None,
+            Origin::FreshSpace => None,
         }
+    }
+
+    // The position of a name that is mentioned.
+    fn find_mentioned(&self, name: &Name) -> Option<usize>
+        ensures found { IfSome result (λ i. (slice_get self.now.names i ≡ Some name.now) × (slice_get self.now.origins i ≡ Some Mentioned)) }
+        ensures no_element { IfNone result ((g : Schema) (fresh : ℕ) → IsTableOf (IsElementClass g) fresh self.now → IsMentioned (IsElementClass g) name.now → ⊥) }
+        ensures no_attribute { IfNone result ((g : Schema) (fresh : ℕ) → IsTableOf (IsAttributeClass g) fresh self.now → IsMentioned (IsAttributeClass g) name.now → ⊥) }
+    {
+        match self.find(name) {
+            Some(position) => self.if_mentioned(position),
+            None => None,
+        }
+    }
+
+    // The position of the name that stands for a name that isn't mentioned.
+    fn find_stand_in(&self, name: &Name) -> usize
+        ensures { (m : NameValue) × (slice_get self.now.names result ≡ Some m) × IsStandIn self.now name.now m }
+    {
         match self.find(self.stand_in(name)) {
             Some(position) => position,
             None => unreachable!(),
+        }
+    }
+
+    /// The position of the name that stands for a name: a mentioned name stands for itself, another name of a mentioned namespace
+    /// for the first fresh name of that namespace, and every other name for `x` in the fresh namespace.
+    pub(crate) fn stands_for(&self, name: &Name) -> usize
+        ensures elements { (g : Schema) (fresh : ℕ) → IsTableOf (IsElementClass g) fresh self.now → StandsAt (IsElementClass g) self.now.names name.now result }
+        ensures attributes { (g : Schema) (fresh : ℕ) → IsTableOf (IsAttributeClass g) fresh self.now → StandsAt (IsAttributeClass g) self.now.names name.now result }
+        ensures within { result < length self.now.names }
+    {
+        match self.find_mentioned(name) {
+            Some(position) => position,
+            None => self.find_stand_in(name),
         }
     }
 }
