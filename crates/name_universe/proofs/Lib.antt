@@ -9,3 +9,4 @@ pub mod Popping
 pub mod Tables
 pub mod Finding
 pub mod Standing
+pub mod Gathering

@@ -6,8 +6,9 @@ use Rattle.std.specs.Cmp.Lexicographic.{slice_cmp}
 use Rattle.rng_model.specs.Texts.{Text}
 use Rattle.rng_model.specs.Names.{Name, name_cmp}
 use Rattle.rng_model.specs.Classes.{Class}
+use Rattle.rng_model.specs.Patterns.{Schema}
 use Rattle.rng_model.specs.Fresh.{numbered, IsFirstFree}
-use Rattle.rng_model.specs.Universe.{IsMentioned, IsMentionedSpace, IsFreshLocal, IsFreshSpace, AreNames, NameStandsFor}
+use Rattle.rng_model.specs.Universe.{IsElementClass, IsAttributeClass, IsMentioned, IsMentionedSpace, IsFreshLocal, IsFreshSpace, AreNames, NameStandsFor}
 use Rattle.name_universe.specs.declared.origin.Origin.{Origin}
 use Rattle.name_universe.specs.declared.origin.Origin.TheVariants.{Mentioned, FreshLocal, FreshSpace}
 
@@ -58,3 +59,13 @@ pub record StandsAt (C : Class → Type 0) (names : List Name) (n : Name) (posit
 pub record AreMentions (C : Class → Type 0) (in_names : List Name) (in_spaces : List Text) : Type 0 where
   pub names : (n : Name) → Contains in_names n ↔ IsMentioned C n
   pub spaces : (u : Text) → Contains in_spaces u ↔ IsMentionedSpace C u
+
+-- the names for elements and the names for attributes
+pub record NameTables : Type 0 where
+  pub elements : NameTable
+  pub attributes : NameTable
+
+-- those of a schema, with so many fresh names in each namespace
+pub record IsUniverse (g : Schema) (fresh : ℕ) (u : NameTables) : Type 0 where
+  pub elements : IsTableOf (IsElementClass g) fresh u.elements
+  pub attributes : IsTableOf (IsAttributeClass g) fresh u.attributes

@@ -2,12 +2,15 @@
 #![tactic(auto)]
 
 mod fresh;
+mod gather;
 mod mentions;
 mod name_list;
 mod names;
 mod origin;
 mod overlaps;
+mod universe;
 
 pub use name_list::NameList;
 pub use origin::Origin;
 pub use overlaps::overlap;
+pub use universe::Universe;

@@ -12,3 +12,4 @@ mod Describing
 mod Widening
 mod Taking
 mod Cutting
+pub mod Classes

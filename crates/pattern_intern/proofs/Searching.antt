@@ -24,7 +24,7 @@ use Rattle.pattern_intern.specs.declared.node.Node.TheVariants.{NotAllowed, Empt
 use Rattle.pattern_intern.proofs.Marking.{InSome, nothing_in, unmarked, visited, more_marks, length-marks, content_small, value_no, kind_no, empty_no, attribute_no}
 
 -- one side of a sum for another
-second : {A B C X : Type 0} → B ↔ C → (A ⊎ B) ↔ X → (A ⊎ C) ↔ X
+pub second : {A B C X : Type 0} → B ↔ C → (A ⊎ B) ↔ X → (A ⊎ C) ↔ X
 second {A} {B} {C} {X} e h = (there, λ x. back (h.1 x))
   where
     there : A ⊎ C → X
@@ -47,7 +47,7 @@ inner {A} {B} {C} e = (there, back)
     back (inr c) = inr (e.1 c)
 
 -- what is found at a number moves from the marks to what is found
-moved : {C C' M M' V X : Type 0} → C' ↔ (C ⊎ V) → M ↔ (V ⊎ M') → (C ⊎ M) ↔ X → (C' ⊎ M') ↔ X
+pub moved : {C C' M M' V X : Type 0} → C' ↔ (C ⊎ V) → M ↔ (V ⊎ M') → (C ⊎ M) ↔ X → (C' ⊎ M') ↔ X
 moved {C} {C'} {M} {M'} {V} {X} e f h = (there, λ x. back (h.1 x))
   where
     found : C ⊎ V → X
@@ -240,7 +240,7 @@ module _ (K : Pattern → Type 0) (s : Stored) where
   no_mark : (n : ℕ) → InMarked K s (replicate n false) n → ⊥
   no_mark n x = let e = get_or-replicate n x.0 false false x.1 in let f = x.2 in absurd (cc)
 
-  in_start : (start : ℕ) (entries : List Entry) → AllByRecursion (λ id. id < count s) (start ∷ map (λ x. x.1) entries) →
+  pub in_start : (start : ℕ) (entries : List Entry) → AllByRecursion (λ id. id < count s) (start ∷ map (λ x. x.1) entries) →
       InMarked K s (with_marks (replicate (count s) false) (start ∷ map (λ x. x.1) entries)) (count s) ↔ InSchema K (schema_of s start entries)
   in_start start entries h = (λ x. there (more.0 x), back)
     where
@@ -256,12 +256,12 @@ module _ (K : Pattern → Type 0) (s : Stored) where
       back (inl w) = more.1 (inr (inl w))
       back (inr x) = more.1 (inr (inr (contents_back entries x.0 x.1 x.2 x.3)))
 
-contents_in : (n : ℕ) (entries : List Entry) → AreBelow n entries → AllByRecursion (λ id. id < n) (map (λ x. x.1) entries)
+pub contents_in : (n : ℕ) (entries : List Entry) → AreBelow n entries → AllByRecursion (λ id. id < n) (map (λ x. x.1) entries)
 contents_in n [] h = tt
 contents_in n (x ∷ entries) h = (h.each 0 x refl, contents_in n entries (record { each = λ k y e. h.each (suc k) y e }))
 
 -- a list without members
-none_there : {A M X : Type 0} → (A → ⊥) → M ↔ X → (A ⊎ M) ↔ X
+pub none_there : {A M X : Type 0} → (A → ⊥) → M ↔ X → (A ⊎ M) ↔ X
 none_there {A} {M} {X} never e = (there, λ x. inr (e.1 x))
   where
     there : A ⊎ M → X
@@ -271,10 +271,10 @@ none_there {A} {M} {X} never e = (there, λ x. inr (e.1 x))
 nothing_last : {A B : Type 0} → (B → ⊥) → (A ⊎ B) ↔ A
 nothing_last never = let e = nothing_in never in (e.1, e.0)
 
-then : {A B C : Type 0} → A ↔ B → B ↔ C → A ↔ C
+pub then : {A B C : Type 0} → A ↔ B → B ↔ C → A ↔ C
 then e f = (λ a. f.0 (e.0 a), λ c. e.1 (f.1 c))
 
-no_member : {X : Type 0} (x : X) → Contains [] x → ⊥
+pub no_member : {X : Type 0} (x : X) → Contains [] x → ⊥
 no_member x c = let l = c.1 in omega (arith, l)
 
 pub started : (s : Stored) (start : ℕ) (entries : List Entry) → start < count s → AreBelow (count s) entries → (r i : List Bool) →
@@ -290,7 +290,7 @@ started s start entries w h r i fr fi l fl =
       has_empty = none_there (λ e. cc) (then (nothing_last (no_mark IsEmpty s (count s))) (in_start (InAttribute IsEmpty) s start entries a));
     }
 
-no_more : (K : Pattern → Type 0) (s : Stored) (marks : List Bool) → InMarked K s marks 0 → ⊥
+pub no_more : (K : Pattern → Type 0) (s : Stored) (marks : List Bool) → InMarked K s marks 0 → ⊥
 no_more K s marks x = let l = x.1 in omega (arith, l)
 
 pub ended : (g : Schema) (s : Stored) (r i : List Bool) (l : Literals) (n : ℕ) → n ≡ 0 → IsSearch g s r i l n n → AreLiterals g l

@@ -8,3 +8,4 @@ pub mod Members
 pub mod Marks
 pub mod Comparisons
 pub mod Steps
+pub mod Attributes

@@ -1,6 +1,7 @@
 //! Patterns by number: equal numbers exactly for equal patterns, and every number keeps its pattern.
 #![tactic(auto)]
 
+mod attributes;
 mod choice;
 mod compare;
 mod constructors;

@@ -43,8 +43,8 @@ pub(crate) fn roots(
     Ok(marks)
 }
 
-// Marks the parts of a node.
-fn mark_parts(marks: &mut Vec<bool>, node: Node)
+/// Marks the parts of a node.
+pub(crate) fn mark_parts(marks: &mut Vec<bool>, node: Node)
     requires { AllByRecursion (λ id. id < length marks.old.items) (parts_of node) }
     ensures { marks.new.items ≡ with_marks marks.old.items (parts_of node) }
 {

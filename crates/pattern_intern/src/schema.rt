@@ -1,13 +1,16 @@
 // A schema over numbered patterns.
-ghost use Rattle.std.specs.Prelude.{◌≡◌, ℕ, ◌<◌, [], ◌∷◌, ◌++◌, length, IfOk, OnErr, OnOk};
+ghost use Rattle.std.specs.Prelude.{◌≡◌, ℕ, ◌<◌, ◌↔◌, [], ◌∷◌, ◌++◌, length, IfOk, OnErr, OnOk};
 ghost use Rattle.rng_model.specs.Constructors.{after_of, choice_of, group_of, interleave_of, one_or_more_of};
 ghost use Rattle.rng_model.specs.Patterns.{IsSimpleForm};
-ghost use Rattle.rng_model.specs.Universe.{AreLiterals};
+ghost use Rattle.rng_model.specs.Classes.{Class};
+ghost use Rattle.rng_model.specs.Universe.{AreLiterals, IsAttributeClass};
+ghost use Rattle.pattern_intern.specs.Attributes.{AreClasses, HasClass};
 ghost use Rattle.name_classes.specs.Views.{class_of};
 ghost use Rattle.pattern_intern.specs.Schemas.{AreBelow, AreRefsBelow, AreWithin, IsNumbered, definition_at, entry_at, numbered_of, schema_of};
 ghost use Rattle.pattern_intern.specs.Stored.{Extends, count, tree_at};
 
-use crate::id::PatternId;
+use crate::attributes::visit_class;
+use crate::id::{ClassId, PatternId};
 use crate::literals::{roots, unmarked, visit};
 use crate::pool::Pool;
 use name_classes::NameClass;
@@ -185,6 +188,22 @@ impl Schema {
             )?;
         }
         Ok(literals)
+    }
+
+    /// The numbers of the name classes of the attributes in the start and the contents. Each number of the pool is visited once.
+    pub fn attribute_classes(&self, alloc: Global) -> Result<Vec<ClassId>, AllocError>
+        ensures within { IfOk result (λ ids. AreClasses self.now.pool ids.items) }
+        ensures each { IfOk result (λ ids. (c : Class) → HasClass self.now.pool ids.items c ↔ IsAttributeClass self.now.schema c) }
+    {
+        let len = self.pool.len();
+        let mut reached = roots(alloc, len, self.start, &self.elements)?;
+        let mut classes = Vec::new(alloc);
+        let mut next = len;
+        while next > 0 {
+            next -= 1;
+            visit_class(&self.pool, PatternId(next), &mut reached, &mut classes)?;
+        }
+        Ok(classes)
     }
 
     /// The allocator that the pool takes its memory from.

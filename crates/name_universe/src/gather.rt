@@ -1,0 +1,52 @@
+// The names and namespaces that the name classes of a schema mention.
+ghost use Rattle.std.specs.Prelude.{◌≡◌, ◌<◌, [], ◌∷◌, Contains, IfOk, OnOk, length};
+ghost use Rattle.rng_model.specs.Texts.{Text as TextValue};
+ghost use Rattle.rng_model.specs.Names.{Name as NameValue};
+ghost use Rattle.rng_model.specs.Classes.{Class};
+ghost use Rattle.rng_model.specs.Universe.{IsElementClass, IsAttributeClass};
+ghost use Rattle.name_classes.specs.Views.{class_of};
+ghost use Rattle.universe_laws.specs.Overlaps.{names_in, spaces_in};
+ghost use Rattle.name_universe.specs.Sets.{Adds};
+ghost use Rattle.name_universe.specs.Tables.{AreMentions};
+
+use crate::mentions::{add_names, add_spaces};
+use name_classes::Name;
+use pattern_intern::Schema;
+use std::alloc::{AllocError, Global};
+use std::collections::BTreeSet;
+use text_atoms::Text;
+
+/// What the classes of element definitions mention.
+pub(crate) fn element_mentions(
+    alloc: Global,
+    schema: &Schema,
+) -> Result<(BTreeSet<Name>, BTreeSet<Text>), AllocError>
+    ensures { IfOk result (λ r. AreMentions (IsElementClass schema.now.schema) r.0.keys r.1.keys) }
+{
+    let mut names = BTreeSet::new(alloc);
+    let mut spaces = BTreeSet::new(alloc);
+    for element in 0..schema.element_count() {
+        let class = schema.element_class(element);
+        add_names(alloc, &mut names, class)?;
+        add_spaces(alloc, &mut spaces, class)?;
+    }
+    Ok((names, spaces))
+}
+
+/// What the classes of attributes in the start and the contents mention.
+pub(crate) fn attribute_mentions(
+    alloc: Global,
+    schema: &Schema,
+) -> Result<(BTreeSet<Name>, BTreeSet<Text>), AllocError>
+    ensures { IfOk result (λ r. AreMentions (IsAttributeClass schema.now.schema) r.0.keys r.1.keys) }
+{
+    let classes = schema.attribute_classes(alloc)?;
+    let mut names = BTreeSet::new(alloc);
+    let mut spaces = BTreeSet::new(alloc);
+    for id in classes.as_slice() {
+        let class = schema.pool().class(*id);
+        add_names(alloc, &mut names, class)?;
+        add_spaces(alloc, &mut spaces, class)?;
+    }
+    Ok((names, spaces))
+}
