@@ -1,6 +1,6 @@
 -- What classes mention, class by class.
 use Rattle.std.proofs.Common.{◌≡◌, ℕ, zero, suc, ◌+◌, ◌<◌, ◌≤◌, ◌⊎◌, inl, inr, ◌↔◌, List, [], ◌∷◌, ◌++◌, length, take, get_or, refl, sym, ◌∙◌, ap, subst, arith, Contains, Some, slice_get}
-use Rattle.std.proofs.lemmas.List.{take_more, take_all}
+use Rattle.std.proofs.lemmas.List.{take_more}
 use Rattle.std.proofs.lemmas.List.Elements.{Contains-push_cases, Contains-append_left, Contains-append_right, Contains-append_cases, Contains-push}
 use Rattle.rng_model.specs.Texts.{Text}
 use Rattle.rng_model.specs.Names.{Name}
@@ -9,6 +9,9 @@ use Rattle.rng_model.specs.Patterns.{Schema, Definition, not_allowed}
 use Rattle.rng_model.specs.Universe.{NamesName, NamesSpace, IsElementClass}
 use Rattle.universe_laws.specs.Overlaps.{names_in, spaces_in}
 use Rattle.text_atoms.proofs.Members.{member_first, member_later, member_cases, member_none, member_at}
+use Rattle.pattern_intern.specs.declared.id.ClassId.{ClassId}
+use Rattle.pattern_intern.specs.Stored.{Stored, class_at}
+use Rattle.pattern_intern.specs.Attributes.{HasClass}
 use Rattle.name_universe.specs.Sets.{Adds}
 use Rattle.name_universe.specs.Tables.{AreMentions}
 
@@ -132,3 +135,26 @@ all_classes g k h c = (λ (d, e, l, at, same). (d, e, at, same), λ (d, e, at, s
 
 pub no_class : (es : List Definition) (c : Class) → IsClassBelow es 0 c → ⊥
 no_class es c (d, e, l, at, same) = omega arith
+
+-- the classes of the first k numbers
+pub next_number : (s : Stored) (ids : List ClassId) (k : ℕ) (d : ClassId) → k < length ids → (x : Class) → x ≡ class_at s (get_or ids k d).0 → (c : Class) →
+    HasClass s (take (k + 1) ids) c ↔ (HasClass s (take k ids) c ⊎ (c ≡ x))
+next_number s ids k d h x e c = (to, from)
+  where
+    grown : take (k + 1) ids ≡ take k ids ++ get_or ids k d ∷ []
+    grown = take_more ids k d h
+
+    to : HasClass s (take (k + 1) ids) c → HasClass s (take k ids) c ⊎ (c ≡ x)
+    to (y, m, f) = elim (Contains-push_cases (take k ids) (get_or ids k d) y (subst (λ (ys : List ClassId). Contains ys y) grown m)) [
+      | inl j ↦ inl (y, j, f)
+      | inr same ↦ inr (f ∙ ap (λ (z : ClassId). class_at s z.0) (sym same) ∙ sym e)
+    ]
+
+    from : HasClass s (take k ids) c ⊎ (c ≡ x) → HasClass s (take (k + 1) ids) c
+    from (inl (y, m, f)) = (y, subst (λ (ys : List ClassId). Contains ys y) (sym grown) (Contains-append_left (take k ids) (get_or ids k d ∷ []) y m), f)
+    from (inr f) = (get_or ids k d, subst (λ (ys : List ClassId). Contains ys (get_or ids k d)) (sym grown) (Contains-push (take k ids) (get_or ids k d)), f ∙ e)
+
+pub number_in : (ids : List ClassId) (k : ℕ) (d : ClassId) → k < length ids → Contains ids (get_or ids k d)
+number_in [] k d h = absurd (omega arith)
+number_in (x ∷ ids) zero d h = member_first x ids
+number_in (x ∷ ids) (suc k) d h = member_later x (get_or ids k d) ids (number_in ids k d (omega arith))
