@@ -172,8 +172,8 @@ module _ (count : ℕ) (some : 1 ≤ count) (mentioned : List Name) (spaces : Li
       let (e, first) = are_firsts u k h in
       let inside : Contains (spaces_of firsts) u = member_of_map (λ (x : Text × Name). x.0) firsts (u, k) h in
       (listed k).0 (put.local k (
-        subst (λ (v : Text). Contains spaces v × IsAmongFree (IsTakenIn mentioned v) count (codes "x") k.local) (sym e)
-        (subst (λ (us : List Text). Contains us u) all_spaces inside, first_among _ count _ _ some first)))
+      subst (λ (v : Text). Contains spaces v × IsAmongFree (IsTakenIn mentioned v) count (codes "x") k.local) (sym e)
+      (subst (λ (us : List Text). Contains us u) all_spaces inside, first_among _ count _ _ some first)))
 
   pub is_table : IsStrictlySortedBy (slice_cmp nat_cmp) spaces → IsTable table
   is_table ordered = record {

@@ -133,7 +133,14 @@ impl Names {
         let space = fresh_space(alloc, &spaces)?;
         let foreign = first_fresh(alloc, &space, &mentioned)?;
         let mut map = BTreeMap::new(alloc);
-        put_fresh(alloc, &mut map, &space, &mentioned, fresh, Origin::FreshSpace)?;
+        put_fresh(
+            alloc,
+            &mut map,
+            &space,
+            &mentioned,
+            fresh,
+            Origin::FreshSpace,
+        )?;
         let firsts = put_each_fresh(alloc, &mut map, spaces, &mentioned, fresh)?;
         put_mentioned(&mut map, mentioned)?;
         let (names, origins) = split(alloc, map)?;
