@@ -366,12 +366,11 @@ next_marked ms marks xs k id l e i =
 pub started_at : (s : Stored) (start : ℕ) (entries : List Entry) (n : ℕ) → n ≡ count s → start < count s → AreBelow (count s) entries → (r i : List Bool) →
     r ≡ with_marks (replicate n false) (start ∷ map (λ x. x.1) entries) → i ≡ replicate n false →
     (l : Literals) → l ≡ record { members = []; has_empty = false; kinds = [] } → IsSearch (schema_of s start entries) s r i l n n × (n ≤ count s)
-started_at s start entries n e w h r i fr fi l fl =
-    (
-        subst (λ m. IsSearch (schema_of s start entries) s r i l m m) (sym e)
-            (started s start entries w h r i (subst (λ m. r ≡ with_marks (replicate m false) (start ∷ map (λ x. x.1) entries)) e fr) (subst (λ m. i ≡ replicate m false) e fi) l fl),
-        omega (arith, e),
-    )
+started_at s start entries n e w h r i fr fi l fl = (
+  subst (λ m. IsSearch (schema_of s start entries) s r i l m m) (sym e)
+      (started s start entries w h r i (subst (λ m. r ≡ with_marks (replicate m false) (start ∷ map (λ x. x.1) entries)) e fr) (subst (λ m. i ≡ replicate m false) e fi) l fl),
+  omega (arith, e),
+)
 
 pub search_at : (g : Schema) (s : Stored) (r i : List Bool) (l : Literals) (n m : ℕ) → n ≡ m → IsSearch g s r i l n n → IsSearch g s r i l m m
 search_at g s r i l n m e k = subst (λ j. IsSearch g s r i l j j) e k

@@ -74,11 +74,7 @@ impl Pool {
     }
 
     // The least members of both, and a side whose members are the others.
-    fn merged(
-        &self,
-        a: PatternId,
-        b: PatternId,
-    ) -> Result<(Vec<PatternId>, PatternId), AllocError>
+    fn merged(&self, a: PatternId, b: PatternId) -> Result<(Vec<PatternId>, PatternId), AllocError>
         requires left { a.0 < count self.now }
         requires right { b.0 < count self.now }
         ensures { IfOk result (λ r. IsMerged self.now (tree_at self.now a.0) (tree_at self.now b.0) r.0.items r.1.0) }

@@ -78,12 +78,7 @@ fn mark_content(marks: &mut Vec<bool>, node: Node)
 }
 
 // Notes the literal of a value, and the kind of a value or datatype.
-fn note(
-    alloc: Global,
-    pool: &Pool,
-    node: Node,
-    literals: &mut Literals,
-) -> Result<(), AllocError>
+fn note(alloc: Global, pool: &Pool, node: Node, literals: &mut Literals) -> Result<(), AllocError>
     requires { PartsBelow (count pool.now) pool.now node }
     ensures members { OnOk result ((x : KindValue × TextValue) → Contains literals.new.members x ↔ (Contains literals.old.members x ⊎ (node_tree pool.now node ≡ value x.0 x.1))) }
     ensures kinds { OnOk result ((k : KindValue) → Contains literals.new.kinds k ↔ (Contains literals.old.kinds k ⊎ IsOfKind k (node_tree pool.now node))) }

@@ -14,8 +14,8 @@ loop-next-preserved c =
     let t = c.loop-next-test.true in
     let k = c.loop-next.invariant.1 in
     let e : c.loop-next.next ≡ c.loop-next.next - 1 + 1 = omega (arith, t) in (
-        c.in_ok-visit_class.ensures _ (class_at_next _ _ _ _ _ _ e c.loop-next.invariant.0),
-        omega (arith, k),
+      c.in_ok-visit_class.ensures _ (class_at_next _ _ _ _ _ _ e c.loop-next.invariant.0),
+      omega (arith, k),
     )
 
 pub returns-clause-within : goal.returns-clause-within

@@ -13,8 +13,8 @@ loop-next-preserved c =
     let t = c.loop-next-test.true in
     let k = c.loop-next.invariant.1 in
     let e : c.loop-next.next ≡ c.loop-next.next - 1 + 1 = omega (arith, t) in (
-        c.in_ok-visit.ensures _ (search_at _ _ _ _ _ _ _ e c.loop-next.invariant.0),
-        omega (arith, k),
+      c.in_ok-visit.ensures _ (search_at _ _ _ _ _ _ _ e c.loop-next.invariant.0),
+      omega (arith, k),
     )
 
 pub returns : goal.returns
