@@ -1,3 +1,4 @@
 pub mod Stored
 pub mod Reading
 pub mod Counting
+pub mod Comparing

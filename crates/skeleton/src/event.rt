@@ -10,15 +10,19 @@ use std::alloc::{AllocError as OutOfMemory, Global};
 use std::marker::Model;
 use text_atoms::Text;
 
-/// An event of a skeleton: the start of a tag with the element's name, an attribute with its text, the end of a tag, a text,
-/// and the end of an element.
-#[derive(Debug, Drop)]
+/// An event of a skeleton. Events are ordered by kind, as the kinds stand here, then by the name, then by the text.
+#[derive(Debug, Drop, PartialEq, Eq, PartialOrd, Ord)]
 pub enum Event {
-    Opening(Name),
-    Attr(Name, Text),
+    /// The end of a tag.
     Body,
-    Chars(Text),
+    /// The end of an element.
     Closing,
+    /// A text.
+    Chars(Text),
+    /// An attribute with its text.
+    Attr(Name, Text),
+    /// The start of a tag, with the element's name.
+    Opening(Name),
 }
 
 /// A list of events.

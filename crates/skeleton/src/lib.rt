@@ -1,11 +1,13 @@
 //! Skeletons, the documents that are listed, as lists of events.
 #![tactic(auto)]
 
+mod code;
 mod document;
 mod event;
 mod walk;
 
-pub use document::{Skeleton, SkeletonFault};
+pub use code::Code;
+pub use document::{RefusedEvents, Skeleton, SkeletonFault};
 pub use event::{Event, Events};
 
 #[cfg(test)]

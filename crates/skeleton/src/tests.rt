@@ -1,7 +1,8 @@
 // Lists of events that are a skeleton's or not, row by row.
-use crate::{Event, Events, Skeleton, SkeletonFault};
+use crate::{Code, Event, Events, Skeleton, SkeletonFault};
 use name_classes::Name;
 use std::alloc::Global;
+use std::cmp::Ordering;
 use std::test::Fail;
 use text_atoms::Text;
 
@@ -38,6 +39,40 @@ fn answer(alloc: Global, rows: &[(char, &str)]) -> Result<Result<usize, usize>, 
         Ok(_) => Err(usize::MAX),
         Err(SkeletonFault::NotSkeleton { event }) => Err(event),
     })
+}
+
+/// The order of the skeletons with these events.
+fn order(
+    alloc: Global,
+    left: &[(char, &str)],
+    right: &[(char, &str)],
+) -> Result<Option<Ordering>, Fail> {
+    Ok(match (skeleton(alloc, left)?, skeleton(alloc, right)?) {
+        (Some(left), Some(right)) => Some(left.compare(&right)),
+        _ => None,
+    })
+}
+
+/// The skeleton with these events.
+fn skeleton(alloc: Global, rows: &[(char, &str)]) -> Result<Option<Skeleton>, Fail> {
+    let mut list = Events::new(alloc);
+    for (kind, word) in rows {
+        list.push(event(alloc, *kind, word)?)?;
+    }
+    Ok(Skeleton::from_events(list).ok())
+}
+
+#[test]
+fn order_of_skeletons(rt: HostRuntime) -> Result<(), Fail> {
+    let alloc = rt.alloc();
+    let small = [('(', "b"), ('>', ""), (')', "")];
+    let text = [('(', "a"), ('>', ""), ('-', "t"), (')', "")];
+    let attribute = [('(', "a"), ('A', "a"), ('>', ""), (')', "")];
+    assert_eq!(rt; order(alloc, &small, &text)?, Some(Ordering::Less));
+    assert_eq!(rt; order(alloc, &attribute, &text)?, Some(Ordering::Greater));
+    assert_eq!(rt; order(alloc, &text, &text)?, Some(Ordering::Equal));
+    assert!(rt; Code::Closing < Code::Chars(0) && Code::Attr(0, 5) < Code::Attr(1, 0));
+    Ok(())
 }
 
 #[test]

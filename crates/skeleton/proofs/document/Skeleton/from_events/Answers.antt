@@ -1,24 +1,12 @@
-use Rattle.std.proofs.Common.{◌≡◌, ap, sym, ◌∙◌, None, Some, Err}
-use Rattle.line_laws.specs.Walks.{Before, fault_number}
+use Rattle.std.proofs.Common.{◌≡◌, ap, Err}
 use Rattle.skeleton.specs.declared.document.SkeletonFault.TheVariants.{NotSkeleton}
-use Rattle.skeleton.proofs.Stored.{events_of_stored, stored_is_skeleton}
 use Rattle.skeleton.proofs.document.Skeleton.from_events.Goals as goal
 
-pub returns-in-None-clause-skeleton : goal.returns-in-None-clause-skeleton
-returns-in-None-clause-skeleton c =
-    let none : fault_number Before c.args.list ≡ None = ap (fault_number Before) (sym c.as_slice.ensures.events) ∙ sym c.in-None.ensures in
-    let are = (c.reading_events_is_exact.ensures.accepts c.args.list c.as_slice.ensures.are_events).0 none in
-    (stored_is_skeleton _ are, events_of_stored _ are)
+pub returns-in-Ok-clause-not_skeleton : goal.returns-in-Ok-clause-not_skeleton
+returns-in-Ok-clause-not_skeleton c = λ event. (λ e. absurd (cc), λ no. absurd ((c.in-Ok.ensures.refused event).1 no))
 
-pub returns-in-None-clause-not_skeleton : goal.returns-in-None-clause-not_skeleton
-returns-in-None-clause-not_skeleton c = λ event.
-    let none : fault_number Before c.args.list ≡ None = ap (fault_number Before) (sym c.as_slice.ensures.events) ∙ sym c.in-None.ensures in
-    (λ e. absurd (cc), λ no. absurd (let some = (c.reading_events_is_exact.ensures.refuses c.args.list c.as_slice.ensures.are_events event).1 no in cc))
-
-pub returns-in-Some-clause-not_skeleton : goal.returns-in-Some-clause-not_skeleton
-returns-in-Some-clause-not_skeleton c = λ event.
-    let found : fault_number Before c.args.list ≡ Some c.in-Some.event = ap (fault_number Before) (sym c.as_slice.ensures.events) ∙ sym c.in-Some.ensures in
-    let law = c.reading_events_is_exact.ensures.refuses c.args.list c.as_slice.ensures.are_events event in (
-      λ e. let same : c.in-Some.event ≡ event = cc in law.0 (found ∙ ap Some same),
-      λ no. let some = law.1 no in let same : c.in-Some.event ≡ event = cc in ap (λ k. Err (NotSkeleton k)) same,
-    )
+pub returns-in-Err-clause-not_skeleton : goal.returns-in-Err-clause-not_skeleton
+returns-in-Err-clause-not_skeleton c = λ event. (
+  λ e. let same : c.in-Err.refused.event ≡ event = cc in (c.in-Err.ensures.refused event).0 same,
+  λ no. ap (λ k. Err (NotSkeleton k)) ((c.in-Err.ensures.refused event).1 no),
+)
