@@ -1,0 +1,6 @@
+pub mod Spelled
+pub mod Named
+pub mod Bodies
+pub mod Lines
+pub mod Faulted
+
