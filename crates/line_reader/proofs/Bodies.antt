@@ -124,5 +124,5 @@ line_first e bytes body more is cut =
     let long : bytes ≡ (body ++ 10 ∷ []) ++ more = cut ∙ sym (append_assoc body (10 ∷ []) more) in
     let all : length (body ++ 10 ∷ []) ≡ length body + 1 = length-append body (10 ∷ []) in
     let behind : drop (length body + 1) bytes ≡ more =
-        ap (drop (length body + 1)) long ∙ ap (λ n. drop n ((body ++ 10 ∷ []) ++ more)) (sym all) ∙ drop-append_seam (body ++ 10 ∷ []) more in
+    ap (drop (length body + 1)) long ∙ ap (λ n. drop n ((body ++ 10 ∷ []) ++ more)) (sym all) ∙ drop-append_seam (body ++ 10 ∷ []) more in
     long ∙ (λ i. (sym is i ++ 10 ∷ []) ++ sym behind i) ∙ ap (λ z. z ++ drop (length body + 1) bytes) (sym (line_is e))

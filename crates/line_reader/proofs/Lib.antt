@@ -3,4 +3,3 @@ pub mod Named
 pub mod Bodies
 pub mod Lines
 pub mod Faulted
-

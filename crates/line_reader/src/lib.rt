@@ -9,3 +9,6 @@ mod reading;
 mod texts;
 
 pub use reading::{LineFault, read_skeleton};
+
+#[cfg(test)]
+mod tests;

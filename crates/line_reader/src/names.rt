@@ -1,5 +1,5 @@
 // Names read from their spellings.
-ghost use Rattle.std.specs.Prelude.{◌≡◌, ◌∷◌, ℕ, List, IfOk, MatchOption};
+ghost use Rattle.std.specs.Prelude.{◌≡◌, ◌<◌, ◌↔◌, ◌∷◌, ℕ, List, length, IsTrue, IfOk, MatchOption};
 ghost use Rattle.rng_model.specs.Names.{IsName};
 ghost use Rattle.rng_model.specs.Names as names;
 ghost use Rattle.rng_model.specs.Lines.{name_spelling};
@@ -32,6 +32,13 @@ fn behind_brace(bytes: &[u8]) -> Option<&[u8]>
     }
 }
 
+/// Whether the namespace is written: the empty one is left out, with its braces.
+fn is_written(ns: &Vec<u8>) -> bool
+    ensures { IsTrue result ↔ (0 < length ns.now.items) }
+{
+    !ns.is_empty()
+}
+
 /// The name whose spelling is `{` and the bytes.
 fn read_qualified(alloc: Global, bytes: &[u8]) -> Result<Option<Name>, OutOfMemory>
     ensures { IfOk result (λ read. MatchOption read
@@ -40,7 +47,7 @@ fn read_qualified(alloc: Global, bytes: &[u8]) -> Result<Option<Name>, OutOfMemo
 {
     let (ns, len) = read_front(alloc, Escapes::Namespace, bytes)?;
     match behind_brace(&bytes[len..]) {
-        Some(local) if !ns.is_empty() => name_of(alloc, ns, local),
+        Some(local) if is_written(&ns) => name_of(alloc, ns, local),
         _ => Ok(None),
     }
 }
