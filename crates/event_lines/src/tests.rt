@@ -1,5 +1,5 @@
 // The text of a skeleton, and how many pieces it is handed over in.
-use crate::{write_name_line, write_skeleton, write_text_line};
+use crate::{read_skeleton, write_name_line, write_skeleton, write_text_line};
 use name_classes::Name;
 use outside::{Calls, MemSink};
 use skeleton::{Event, Events, Skeleton};
@@ -59,6 +59,23 @@ fn texts(rt: HostRuntime) -> Result<(), Fail> {
         (false, true)
     );
     assert_eq!(rt; written(alloc, 1000, 1, whole)?, (true, true));
+    Ok(())
+}
+
+/// Whether the bytes are read and written again as they are.
+fn is_kept(alloc: Global, bytes: &[u8]) -> Result<bool, Fail> {
+    let mut sink = sink(alloc, 1000, 1000)?;
+    let done = match read_skeleton(alloc, bytes) {
+        Ok(skeleton) => write_skeleton(&skeleton, &mut sink).is_ok(),
+        Err(_) => false,
+    };
+    Ok(done && sink.taken() == bytes)
+}
+
+#[test]
+fn texts_that_are_read(rt: HostRuntime) -> Result<(), Fail> {
+    let text = "({a\\sb\\{}c\nA{\\}\\\\}d \\\\\\n\\r \n>\n-x\\\\y\n(e\n>\n)\n- z\n)\n\n";
+    assert!(rt; is_kept(rt.alloc(), text.as_bytes())?);
     Ok(())
 }
 
