@@ -10,15 +10,15 @@ use Rattle.syntax_laws.specs.Expecting.{Part, pass, become, refuse, first, next,
 use Rattle.syntax_laws.specs.Expecting as part
 use Rattle.rnc_parser.specs.Reading.{Fails, Parsed, parsed}
 use Rattle.rnc_parser.specs.Parts.{ReadsOperand, BehindType, BehindPrimary, BehindParticle, ReadsMore, AreInner, IsInnerItem, ReadsNext, ReadsMoreItems}
-use Rattle.rnc_parser.specs.Trees.{pattern_of, item_of, type_of, parameter_of}
+use Rattle.schema_tree.specs.Trees.{pattern_of, item_of, type_of, parameter_of}
 use Rattle.rnc_parser.specs.declared.stop.Stop.{Stop}
-use Rattle.rnc_parser.specs.declared.tree.Pattern.{Pattern}
-use Rattle.rnc_parser.specs.declared.tree.Item.{Item}
-use Rattle.rnc_parser.specs.declared.tree.TypeName as src
-use Rattle.rnc_parser.specs.declared.tree.Parameter.{Parameter}
-use Rattle.rnc_parser.specs.declared.tree.Item.TheViews as view
+use Rattle.schema_tree.specs.declared.tree.Pattern.{Pattern}
+use Rattle.schema_tree.specs.declared.tree.Item.{Item}
+use Rattle.schema_tree.specs.declared.tree.TypeName as src
+use Rattle.schema_tree.specs.declared.tree.Parameter.{Parameter}
+use Rattle.schema_tree.specs.declared.tree.Item.TheViews as view
 use Rattle.rnc_parser.proofs.Steps.{begin, turn, past, read, made, no_symbol, symbol_passes}
-use Rattle.rnc_parser.proofs.Folds.{pattern_data_type, pattern_data_except}
+use Rattle.schema_tree.proofs.Folds.{pattern_data_type, pattern_data_except}
 
 abbrev pub IsNot : Symbol → List Placed → Type 0
 IsNot s ts = (a : ℕ) (xs : List Placed) → ts ≡ symbol s at a ∷ xs → ⊥

@@ -1,4 +1,3 @@
-pub mod Folds
 pub mod Steps
 pub mod Shapes
 pub mod Blocks

@@ -11,11 +11,11 @@ use Rattle.syntax_laws.specs.Expecting.{Part, pass, become, refuse, first, next,
 use Rattle.syntax_laws.specs.Expecting as part
 use Rattle.rnc_parser.specs.Reading.{Takes, Parsed, parsed, IsSign, IsNamespaceName}
 use Rattle.rnc_parser.specs.Parts.{ReadsOpenClass, ReadsClassOperand}
-use Rattle.rnc_parser.specs.Trees.{class_of}
-use Rattle.rnc_parser.specs.declared.tree.Class.{Class}
-use Rattle.rnc_parser.specs.declared.tree.Class.TheViews as view
+use Rattle.schema_tree.specs.Trees.{class_of}
+use Rattle.schema_tree.specs.declared.tree.Class.{Class}
+use Rattle.schema_tree.specs.declared.tree.Class.TheViews as view
 use Rattle.rnc_parser.proofs.Steps.{begin, turn, past, read, made, no_symbol, symbol_first, namespace_first}
-use Rattle.rnc_parser.proofs.Folds.{class_any, class_any_except, class_namespace, class_namespace_except}
+use Rattle.schema_tree.proofs.Folds.{class_any, class_any_except, class_namespace, class_namespace_except}
 
 -- no bar follows
 no_bar : {ts us : List Placed} → Stands (part.class ∷ []) ts (part.more_classes ∷ []) us → ((a : ℕ) (xs : List Placed) → us ≡ symbol bar at a ∷ xs → ⊥) → Stands (part.class ∷ []) ts [] us

@@ -11,10 +11,10 @@ use Rattle.grammar_laws.specs.Grammar as by
 use Rattle.rnc_parser.specs.Parts.{ReadsPrefix, ReadsParameter, ReadsOpenClass, ReadsBraced, ReadsExcept, ReadsOpen, BehindPrimary, BehindParticle, BehindPostfix, BehindConnector, ReadsMore, AreInner, IsInnerItem, ReadsNext}
 use Rattle.rnc_parser.specs.Reading.{Eats, Takes, IsKeyword, IsSign, IsPlainName, IsPrefixedName, IsName, IsMethod, IsTypeName}
 use Rattle.syntax_laws.specs.Expecting.{Part}
-use Rattle.rnc_parser.specs.Trees.{method_of, item_of, type_of}
-use Rattle.rnc_parser.specs.declared.tree.TypeName as src
-use Rattle.rnc_parser.specs.declared.tree.Method.{Method}
-use Rattle.rnc_parser.specs.declared.tree.Item.{Item}
+use Rattle.schema_tree.specs.Trees.{method_of, item_of, type_of}
+use Rattle.schema_tree.specs.declared.tree.TypeName as src
+use Rattle.schema_tree.specs.declared.tree.Method.{Method}
+use Rattle.schema_tree.specs.declared.tree.Item.{Item}
 use Rattle.rnc_parser.proofs.Steps.{keyword_first, symbol_first, plain_first, prefixed_first, name_first}
 
 abbrev pub Words : Keyword → List Placed → ℕ → List Placed → Type 0

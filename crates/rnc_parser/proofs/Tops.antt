@@ -10,13 +10,13 @@ use Rattle.syntax_laws.specs.Expecting.{Part, first, Stands}
 use Rattle.syntax_laws.specs.Expecting as part
 use Rattle.rnc_parser.specs.Reading.{Takes, AtEnd, Fails, at_token, no_memory, Parsed, failed, IsPlainName, IsPrefixedName, IsMethod}
 use Rattle.rnc_parser.specs.Parts.{ReadsOpen, BehindType, BehindPrimary, BehindParticle, BehindBare, ReadsMoreItems, ReadsBody, BehindName}
-use Rattle.rnc_parser.specs.Trees.{pattern_of, item_of}
+use Rattle.schema_tree.specs.Trees.{pattern_of, item_of}
 use Rattle.rnc_parser.specs.declared.stop.Stop.{Stop}
-use Rattle.rnc_parser.specs.declared.tree.Body.{Body}
-use Rattle.rnc_parser.specs.declared.tree.Item.{Item, Define}
-use Rattle.rnc_parser.specs.declared.tree.Method.{Method}
-use Rattle.rnc_parser.specs.declared.tree.Pattern.{Pattern, Ref}
-use Rattle.rnc_parser.proofs.Folds as fold
+use Rattle.schema_tree.specs.declared.tree.Body.{Body}
+use Rattle.schema_tree.specs.declared.tree.Item.{Item, Define}
+use Rattle.schema_tree.specs.declared.tree.Method.{Method}
+use Rattle.schema_tree.specs.declared.tree.Pattern.{Pattern, Ref}
+use Rattle.schema_tree.proofs.Folds as fold
 use Rattle.rnc_parser.proofs.Shapes as shape
 use Rattle.rnc_parser.proofs.Steps.{turn, run_on, stands, stuck, plain_first, prefixed_first}
 

@@ -6,12 +6,12 @@ use Rattle.token_laws.specs.Tokens.{Symbol, Token, ident, symbol, Placed, ◌at�
 use Rattle.grammar_laws.specs.Trees as tree
 use Rattle.grammar_laws.specs.Trees.{TypeName, patterns_of, items_of}
 use Rattle.grammar_laws.specs.Grammar.{IsAnyId, IsItemName, IsType, ReadsBlock, ReadsBlocks, ReadsLiteral, ReadsBareClass, ReadsClassExcept, ReadsBraces, ReadsBare, ReadsPrimary, ReadsParticle, ReadsMembers, ReadsPattern, ReadsItem, ReadsItems, HasNoInclude, IsInner, DerivesBody, Derives}
-use Rattle.rnc_parser.specs.declared.tree.Class.{Class}
-use Rattle.rnc_parser.specs.declared.tree.Pattern.{Pattern}
-use Rattle.rnc_parser.specs.declared.tree.Item.{Item}
-use Rattle.rnc_parser.specs.declared.tree.Body.{Body}
-use Rattle.rnc_parser.specs.declared.schema.Parts.{Parts}
-use Rattle.rnc_parser.specs.Trees.{class_of, pattern_of, item_of, body_of, declaration_of}
+use Rattle.schema_tree.specs.declared.tree.Class.{Class}
+use Rattle.schema_tree.specs.declared.tree.Pattern.{Pattern}
+use Rattle.schema_tree.specs.declared.tree.Item.{Item}
+use Rattle.schema_tree.specs.declared.tree.Body.{Body}
+use Rattle.schema_tree.specs.declared.full.Parts.{Parts}
+use Rattle.schema_tree.specs.Trees.{class_of, pattern_of, item_of, body_of, declaration_of}
 
 -- a prefix, or none
 abbrev pub ReadsPrefix : List Placed → List Placed → Option Text → Type 0

@@ -6,10 +6,10 @@ use Rattle.token_laws.specs.Tokens as kw
 use Rattle.grammar_laws.specs.Trees as tree
 use Rattle.grammar_laws.specs.Grammar.{IsAnyId, IsAnnotationName}
 use Rattle.syntax_laws.specs.Expecting.{Part, pass, refuse, first, next, type_move, end_move, is_assign, Stands, Sticks}
-use Rattle.rnc_parser.specs.Trees.{type_of, method_of}
+use Rattle.schema_tree.specs.Trees.{type_of, method_of}
 use Rattle.rnc_parser.specs.declared.stop.Stop.{Stop}
-use Rattle.rnc_parser.specs.declared.tree.TypeName.{TypeName}
-use Rattle.rnc_parser.specs.declared.tree.Method.{Method}
+use Rattle.schema_tree.specs.declared.tree.TypeName.{TypeName}
+use Rattle.schema_tree.specs.declared.tree.Method.{Method}
 
 -- the symbol is next, or it isn't
 abbrev pub Is : Symbol → List Placed → Bool → Type 0

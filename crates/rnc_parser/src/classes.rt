@@ -4,12 +4,12 @@ ghost use Rattle.token_laws.specs.Tokens as kw;
 ghost use Rattle.syntax_laws.specs.Expecting as part;
 ghost use Rattle.rnc_parser.specs.Reading.{Parsed};
 ghost use Rattle.rnc_parser.specs.Parts.{ReadsOpenClass, ReadsClassOperand};
-ghost use Rattle.rnc_parser.specs.Trees.{class_of};
+ghost use Rattle.schema_tree.specs.Trees.{class_of};
 
 use crate::annotations::{blocks, follow};
 use crate::cursor::Cursor;
 use crate::stop::Stop;
-use crate::tree::Class;
+use schema_tree::Class;
 use rnc_lexer::Symbol;
 use sqlite_items::{Boxed, Items};
 use std::alloc::Global;

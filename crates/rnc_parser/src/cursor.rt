@@ -7,7 +7,7 @@ ghost use Rattle.rnc_parser.specs.Reading.{Is, Eats, Takes, InBlock, AtEnd, IsTy
 
 use crate::names::keyword_name;
 use crate::stop::Stop;
-use crate::tree::{Method, TypeName};
+use schema_tree::{Method, TypeName};
 use rnc_lexer::{Keyword, Lexed, Symbol, Token, Tokens};
 use std::alloc::Global;
 use std::marker::Model;

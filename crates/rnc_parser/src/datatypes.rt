@@ -3,13 +3,13 @@ ghost use Rattle.grammar_laws.specs.Grammar.{ReadsParameters, ReadsBraces, Reads
 ghost use Rattle.syntax_laws.specs.Expecting as part;
 ghost use Rattle.rnc_parser.specs.Reading.{Parsed};
 ghost use Rattle.rnc_parser.specs.Parts.{ReadsParameter};
-ghost use Rattle.rnc_parser.specs.Trees.{parameter_of, passed_of};
+ghost use Rattle.schema_tree.specs.Trees.{parameter_of, passed_of};
 
 use crate::annotations::blocks;
 use crate::cursor::Cursor;
 use crate::literals::literal;
 use crate::stop::Stop;
-use crate::tree::{Parameter, Passed};
+use schema_tree::{Parameter, Passed};
 use rnc_lexer::{Keyword, Symbol};
 use sqlite_items::Items;
 use std::alloc::Global;

@@ -12,15 +12,13 @@ mod patterns;
 mod prologue;
 mod schema;
 mod stop;
-mod tree;
 
 pub use classes::class;
 pub use cursor::Cursor;
 pub use patterns::{items, pattern};
 pub use prologue::declarations;
-pub use schema::{Parts, file};
+pub use schema::file;
 pub use stop::Stop;
-pub use tree::{Body, Class, Declaration, Item, Method, Parameter, Passed, Pattern, TypeName, Uri};
 
 #[cfg(test)]
 mod tests;

@@ -2,11 +2,11 @@ ghost use Rattle.std.specs.Prelude.{◌≡◌, ◌<◌, [], ◌∷◌, length, O
 ghost use Rattle.grammar_laws.specs.Grammar.{ReadsLiteral, ReadsUri};
 ghost use Rattle.syntax_laws.specs.Expecting as part;
 ghost use Rattle.rnc_parser.specs.Reading.{Parsed};
-ghost use Rattle.rnc_parser.specs.Trees.{uri_of};
+ghost use Rattle.schema_tree.specs.Trees.{uri_of};
 
 use crate::cursor::Cursor;
 use crate::stop::Stop;
-use crate::tree::Uri;
+use schema_tree::Uri;
 use rnc_lexer::{Keyword, Symbol};
 use std::alloc::Global;
 use text_atoms::Text;

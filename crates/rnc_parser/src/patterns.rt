@@ -6,7 +6,7 @@ ghost use Rattle.rnc_lexer.specs.Views.{symbol_of};
 ghost use Rattle.syntax_laws.specs.Expecting as part;
 ghost use Rattle.rnc_parser.specs.Reading.{Parsed};
 ghost use Rattle.rnc_parser.specs.Parts.{ReadsOpen, ReadsOperand, ReadsBraced, BehindType, BehindPrimary, BehindParticle, BehindPostfix, BehindConnector, ReadsMore, ReadsOneItem, ReadsNext, ReadsMoreItems, AreInner};
-ghost use Rattle.rnc_parser.specs.Trees.{pattern_of, item_of, type_of};
+ghost use Rattle.schema_tree.specs.Trees.{pattern_of, item_of, type_of};
 
 use crate::annotations::{block, blocks, follow};
 use crate::classes::class;
@@ -14,7 +14,7 @@ use crate::cursor::Cursor;
 use crate::datatypes::{braces, passed};
 use crate::literals::literal;
 use crate::stop::Stop;
-use crate::tree::{Item, Pattern, TypeName};
+use schema_tree::{Item, Pattern, TypeName};
 use rnc_lexer::{Keyword, Symbol};
 use sqlite_items::{Boxed, Items};
 use std::alloc::Global;

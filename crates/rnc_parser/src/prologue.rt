@@ -4,12 +4,12 @@ ghost use Rattle.token_laws.specs.Tokens as kw;
 ghost use Rattle.syntax_laws.specs.Expecting as part;
 ghost use Rattle.rnc_parser.specs.Reading.{Parsed};
 ghost use Rattle.rnc_parser.specs.Parts.{ReadsPrefix};
-ghost use Rattle.rnc_parser.specs.Trees.{declaration_of};
+ghost use Rattle.schema_tree.specs.Trees.{declaration_of};
 
 use crate::cursor::Cursor;
 use crate::literals::{literal, uri};
 use crate::stop::Stop;
-use crate::tree::Declaration;
+use schema_tree::Declaration;
 use rnc_lexer::{Keyword, Symbol};
 use sqlite_items::Items;
 use std::alloc::Global;

@@ -3,26 +3,19 @@ ghost use Rattle.grammar_laws.specs.Grammar.{Derives};
 ghost use Rattle.syntax_laws.specs.Expecting as part;
 ghost use Rattle.rnc_parser.specs.Reading.{Parsed};
 ghost use Rattle.rnc_parser.specs.Parts.{ReadsBody, BehindName, BehindBlocks, BehindBare, DerivesFile};
-ghost use Rattle.rnc_parser.specs.Trees.{pattern_of, body_of, declaration_of};
+ghost use Rattle.schema_tree.specs.Trees.{pattern_of};
 
 use crate::annotations::{block, blocks, follow};
 use crate::cursor::Cursor;
 use crate::patterns::{bare, item, items, more_patterns, pattern, postfix, typed};
 use crate::prologue::declarations;
 use crate::stop::Stop;
-use crate::tree::{Body, Declaration, Item, Pattern, TypeName};
+use schema_tree::{Body, Item, Parts, Pattern, TypeName};
 use rnc_lexer::Symbol;
 use sqlite_items::Items;
 use std::alloc::Global;
 use syntax_laws::ItemForm;
 use text_atoms::Text;
-
-/// The declarations and the body of one file.
-#[derive(Drop)]
-pub struct Parts {
-    pub declarations: Items<Declaration>,
-    pub body: Body,
-}
 
 /// Reads a whole file.
 pub fn file(alloc: Global, tokens: &mut Cursor<'_>) -> Result<Parts, Stop>

@@ -2,13 +2,13 @@ use Rattle.std.proofs.Common.{true, [], ◌∷◌, ◌++◌, map, refl, sym, ap,
 use Rattle.grammar_laws.specs.Trees as tree
 use Rattle.grammar_laws.specs.Trees.{patterns_of, items_of, classes_of}
 use Rattle.rnc_parser.specs.Parts.{ReadsClassOperand}
-use Rattle.rnc_parser.specs.Trees.{class_of}
+use Rattle.schema_tree.specs.Trees.{class_of}
 use Rattle.syntax_laws.specs.Expecting.{next, first, Stands, is_symbol, declaration_move, class_move, pattern_move, item_move, next_item_move}
 use Rattle.syntax_laws.specs.Expecting as part
 use Rattle.rnc_parser.specs.Reading.{Parsed, parsed, failed, no_memory}
 use Rattle.rnc_parser.proofs.Steps.{begin, turn, read, took, stuck, inside, missing, passed_on, instead, made}
 use Rattle.rnc_parser.proofs.Shapes as shape
-use Rattle.rnc_parser.proofs.Folds as fold
+use Rattle.schema_tree.proofs.Folds as fold
 use Rattle.rnc_parser.proofs.More as more
 use Rattle.rnc_parser.proofs.More.{no_class_operand, no_operand_sign, operand_sign, class_operand, any_class_read, namespace_class_read}
 use Rattle.rnc_parser.proofs.classes.+class.Goals as goal

@@ -1,5 +1,5 @@
 use Rattle.std.proofs.Common.{◌+◌, ◌*◌, ◌<◌, length, map}
-use Rattle.rnc_parser.specs.Trees.{class_of}
+use Rattle.schema_tree.specs.Trees.{class_of}
 use Rattle.rnc_parser.proofs.More.{ClassAt}
 use Rattle.rnc_parser.proofs.classes.+class.Given as goal
 

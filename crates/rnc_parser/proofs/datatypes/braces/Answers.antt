@@ -1,6 +1,6 @@
 use Rattle.std.proofs.Common.{[], ◌∷◌, map, Ok, refl, sym, ap, subst}
 use Rattle.grammar_laws.specs.Grammar.{ReadsBraces}
-use Rattle.rnc_parser.specs.Trees.{parameter_of}
+use Rattle.schema_tree.specs.Trees.{parameter_of}
 use Rattle.syntax_laws.specs.Expecting.{next, first, Stands, is_symbol, declaration_move, class_move, pattern_move, item_move, next_item_move}
 use Rattle.syntax_laws.specs.Expecting as part
 use Rattle.rnc_parser.specs.Reading.{Parsed, parsed}

@@ -1,8 +1,8 @@
 use Rattle.std.proofs.Common.{map, sym, ap, ◌∙◌, subst, arith}
-use Rattle.rnc_parser.specs.Trees.{parameter_of}
+use Rattle.schema_tree.specs.Trees.{parameter_of}
 use Rattle.rnc_parser.specs.Reading.{no_memory}
 use Rattle.rnc_parser.proofs.Steps.{inside, passed_on}
-use Rattle.rnc_parser.proofs.Folds as fold
+use Rattle.schema_tree.proofs.Folds as fold
 use Rattle.rnc_parser.proofs.Lists as list
 use Rattle.rnc_parser.proofs.datatypes.parameters.Goals as goal
 

@@ -1,5 +1,5 @@
 use Rattle.std.proofs.Common.{◌≤◌, length, map}
-use Rattle.rnc_parser.specs.Trees.{parameter_of}
+use Rattle.schema_tree.specs.Trees.{parameter_of}
 use Rattle.rnc_parser.proofs.Lists.{ParametersAt}
 use Rattle.rnc_parser.proofs.datatypes.parameters.Given as goal
 

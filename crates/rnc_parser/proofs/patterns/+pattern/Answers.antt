@@ -5,20 +5,20 @@ use Rattle.grammar_laws.specs.Trees.{items_of}
 use Rattle.grammar_laws.specs.Grammar.{ReadsBare, ReadsBareClass, ReadsClass, ReadsPattern, ReadsParticle, ReadsPrimary, ReadsItem, ReadsItems, ReadsInner, ReadsUri, ReadsParameters, ReadsBraces, ReadsInherit}
 use Rattle.grammar_laws.specs.Grammar as by
 use Rattle.rnc_parser.specs.Parts.{ReadsOpen, ReadsOperand, ReadsOneItem, ReadsNext, IsInnerItem}
-use Rattle.rnc_parser.specs.Trees.{pattern_of, item_of}
+use Rattle.schema_tree.specs.Trees.{pattern_of, item_of}
 use Rattle.syntax_laws.specs.Expecting.{next, first, Stands, is_symbol, declaration_move, class_move, pattern_move, item_move, next_item_move}
 use Rattle.syntax_laws.specs.Expecting as part
 use Rattle.rnc_parser.specs.Reading.{Parsed, parsed, failed, no_memory}
 use Rattle.rnc_parser.proofs.Steps as step
 use Rattle.rnc_parser.proofs.Steps.{begin, turn, past, read, took, stuck, inside, missing, passed_on, instead, at_last, made, stands, uneaten}
 use Rattle.rnc_parser.proofs.Shapes as shape
-use Rattle.rnc_parser.proofs.Folds as fold
+use Rattle.schema_tree.proofs.Folds as fold
 use Rattle.grammar_laws.specs.Grammar.{ReadsLiteral}
 use Rattle.syntax_laws.specs.declared.forms.ItemForm.{ItemForm}
 use Rattle.rnc_parser.proofs.Chains as chain
 use Rattle.rnc_parser.proofs.Chains.{moved, moved_fails}
 use Rattle.rnc_lexer.specs.Views.{symbol_of}
-use Rattle.rnc_parser.specs.declared.tree.Item.TheViews as view
+use Rattle.schema_tree.specs.declared.tree.Item.TheViews as view
 use Rattle.rnc_parser.proofs.patterns.+pattern.Goals as goal
 
 pub pattern-returns-in_err-first-clause-parsed : goal.pattern-returns-in_err-first-clause-parsed

@@ -1,6 +1,6 @@
 use Rattle.std.proofs.Common.{◌+◌, ◌*◌, ◌≤◌, length, map}
 use Rattle.rnc_lexer.specs.Views.{symbol_of}
-use Rattle.rnc_parser.specs.Trees.{pattern_of, item_of}
+use Rattle.schema_tree.specs.Trees.{pattern_of, item_of}
 use Rattle.rnc_parser.proofs.Chains.{MembersAt, ItemsAt}
 use Rattle.rnc_parser.proofs.patterns.+pattern.Given as goal
 

@@ -1,5 +1,5 @@
 use Rattle.std.proofs.Common.{refl, ◌∙◌}
-use Rattle.rnc_parser.specs.Trees.{pattern_of}
+use Rattle.schema_tree.specs.Trees.{pattern_of}
 use Rattle.rnc_parser.proofs.Steps.{begin, past, at_last}
 use Rattle.rnc_parser.proofs.Shapes as shape
 use Rattle.rnc_parser.proofs.Chains as chain

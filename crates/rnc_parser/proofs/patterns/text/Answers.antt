@@ -3,7 +3,7 @@ use Rattle.grammar_laws.specs.Grammar.{ReadsBare}
 use Rattle.rnc_parser.specs.Reading.{parsed}
 use Rattle.rnc_parser.proofs.Steps.{begin, took, missing, passed_on}
 use Rattle.rnc_parser.proofs.Shapes as shape
-use Rattle.rnc_parser.proofs.Folds as fold
+use Rattle.schema_tree.proofs.Folds as fold
 use Rattle.rnc_parser.proofs.patterns.text.Goals as goal
 
 pub returns-in_err-_at-clause-parsed : goal.returns-in_err-_at-clause-parsed

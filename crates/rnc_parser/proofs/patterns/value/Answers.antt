@@ -3,7 +3,7 @@ use Rattle.grammar_laws.specs.Grammar.{ReadsBare, ReadsBareClass, ReadsClass, Re
 use Rattle.grammar_laws.specs.Grammar as by
 use Rattle.rnc_parser.specs.Reading.{parsed}
 use Rattle.rnc_parser.proofs.Steps.{begin, read, inside, passed_on, made}
-use Rattle.rnc_parser.proofs.Folds as fold
+use Rattle.schema_tree.proofs.Folds as fold
 use Rattle.grammar_laws.specs.Grammar.{ReadsLiteral}
 use Rattle.rnc_parser.proofs.patterns.value.Goals as goal
 

@@ -1,13 +1,13 @@
 use Rattle.std.proofs.Common.{ap, ◌∙◌}
 use Rattle.grammar_laws.specs.Grammar.{ReadsBare, ReadsBareClass, ReadsClass, ReadsPattern, ReadsParticle, ReadsPrimary, ReadsItem, ReadsItems, ReadsInner, ReadsUri, ReadsParameters, ReadsBraces, ReadsInherit}
 use Rattle.grammar_laws.specs.Grammar as by
-use Rattle.rnc_parser.specs.Trees.{pattern_of}
+use Rattle.schema_tree.specs.Trees.{pattern_of}
 use Rattle.rnc_parser.specs.Reading.{parsed, no_memory}
 use Rattle.rnc_parser.proofs.Steps.{begin, read, inside, passed_on, made}
 use Rattle.rnc_parser.proofs.Shapes as shape
-use Rattle.rnc_parser.proofs.Folds as fold
+use Rattle.schema_tree.proofs.Folds as fold
 use Rattle.grammar_laws.specs.Grammar.{ReadsLiteral}
-use Rattle.rnc_parser.specs.declared.tree.Item.TheViews as view
+use Rattle.schema_tree.specs.declared.tree.Item.TheViews as view
 use Rattle.rnc_parser.proofs.patterns.zero_or_more.Goals as goal
 
 pub returns-in_err-follow-clause-parsed : goal.returns-in_err-follow-clause-parsed

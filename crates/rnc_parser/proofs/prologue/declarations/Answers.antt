@@ -1,9 +1,9 @@
 use Rattle.std.proofs.Common.{map, sym, ap, ◌∙◌, subst}
 use Rattle.rnc_parser.specs.Reading.{no_memory}
 use Rattle.rnc_parser.proofs.Steps.{inside, passed_on}
-use Rattle.rnc_parser.proofs.Folds as fold
+use Rattle.schema_tree.proofs.Folds as fold
 use Rattle.rnc_parser.proofs.Lists as list
-use Rattle.rnc_parser.specs.Trees.{declaration_of}
+use Rattle.schema_tree.specs.Trees.{declaration_of}
 use Rattle.rnc_parser.proofs.prologue.declarations.Goals as goal
 
 pub loop-alloc-init : goal.loop-alloc-init

@@ -1,5 +1,5 @@
 use Rattle.std.proofs.Common.{length, map}
-use Rattle.rnc_parser.specs.Trees.{declaration_of}
+use Rattle.schema_tree.specs.Trees.{declaration_of}
 use Rattle.rnc_parser.proofs.Lists.{DeclarationsAt}
 use Rattle.rnc_parser.proofs.prologue.declarations.Given as goal
 

@@ -1,4 +1,4 @@
-use Rattle.rnc_parser.specs.declared.tree.Item.{Define}
+use Rattle.schema_tree.specs.declared.tree.Item.{Define}
 use Rattle.rnc_parser.specs.Reading.{parsed, no_memory}
 use Rattle.rnc_parser.proofs.Steps.{begin, read, took, inside, missing, passed_on, made}
 use Rattle.rnc_parser.proofs.Tops as top

@@ -2,20 +2,20 @@
 use Rattle.std.specs.Prelude.{map, Some, None, option_map}
 use Rattle.grammar_laws.specs.Trees.{classes_of, patterns_of, items_of}
 use Rattle.grammar_laws.specs.Trees as tree
-use Rattle.rnc_parser.specs.declared.tree.Uri.{Uri}
-use Rattle.rnc_parser.specs.declared.tree.Declaration.{Declaration}
-use Rattle.rnc_parser.specs.declared.tree.TypeName.{TypeName}
-use Rattle.rnc_parser.specs.declared.tree.Parameter.{Parameter}
-use Rattle.rnc_parser.specs.declared.tree.Passed.{Passed}
-use Rattle.rnc_parser.specs.declared.tree.Method.{Method}
-use Rattle.rnc_parser.specs.declared.tree.Class.{Class}
-use Rattle.rnc_parser.specs.declared.tree.Class.TheOpen.{Class-F}
-use Rattle.rnc_parser.specs.declared.tree.Class.TheFolds.{fold-Class}
-use Rattle.rnc_parser.specs.declared.tree.Pattern.{Pattern}
-use Rattle.rnc_parser.specs.declared.tree.Item.TheOpen.{Pattern-F, Item-F}
-use Rattle.rnc_parser.specs.declared.tree.Item.TheFolds.{fold-Pattern, fold-Item}
-use Rattle.rnc_parser.specs.declared.tree.Item.{Item}
-use Rattle.rnc_parser.specs.declared.tree.Body.{Body}
+use Rattle.schema_tree.specs.declared.tree.Uri.{Uri}
+use Rattle.schema_tree.specs.declared.tree.Declaration.{Declaration}
+use Rattle.schema_tree.specs.declared.tree.TypeName.{TypeName}
+use Rattle.schema_tree.specs.declared.tree.Parameter.{Parameter}
+use Rattle.schema_tree.specs.declared.tree.Passed.{Passed}
+use Rattle.schema_tree.specs.declared.tree.Method.{Method}
+use Rattle.schema_tree.specs.declared.tree.Class.{Class}
+use Rattle.schema_tree.specs.declared.tree.Class.TheOpen.{Class-F}
+use Rattle.schema_tree.specs.declared.tree.Class.TheFolds.{fold-Class}
+use Rattle.schema_tree.specs.declared.tree.Pattern.{Pattern}
+use Rattle.schema_tree.specs.declared.tree.Item.TheOpen.{Pattern-F, Item-F}
+use Rattle.schema_tree.specs.declared.tree.Item.TheFolds.{fold-Pattern, fold-Item}
+use Rattle.schema_tree.specs.declared.tree.Item.{Item}
+use Rattle.schema_tree.specs.declared.tree.Body.{Body}
 
 abbrev pub uri_of : Uri → tree.Uri
 uri_of (Uri.Literal l) = tree.Uri.literal l

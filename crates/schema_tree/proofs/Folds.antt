@@ -4,23 +4,23 @@ use Rattle.std.specs.Prelude.{option_map}
 use Rattle.rng_model.specs.Texts.{Text}
 use Rattle.grammar_laws.specs.Trees.{classes_of, patterns_of, items_of}
 use Rattle.grammar_laws.specs.Trees as tree
-use Rattle.rnc_parser.specs.declared.tree.Method.{Method}
-use Rattle.rnc_parser.specs.declared.tree.TypeName.{TypeName}
-use Rattle.rnc_parser.specs.declared.tree.Parameter.{Parameter}
-use Rattle.rnc_parser.specs.declared.tree.Passed.{Passed}
-use Rattle.rnc_parser.specs.declared.tree.Class.{Class}
-use Rattle.rnc_parser.specs.declared.tree.Class.TheOpen.{Class-F}
-use Rattle.rnc_parser.specs.declared.tree.Class.TheFolds.{fold-roll-Class}
-use Rattle.rnc_parser.specs.declared.tree.Class.{Plain, Prefixed}
-use Rattle.rnc_parser.specs.declared.tree.Class.TheViews.{roll-Class}
-use Rattle.rnc_parser.specs.declared.tree.Class.TheViews as open_class
-use Rattle.rnc_parser.specs.declared.tree.Pattern.{Pattern, Ref, Parent, Empty, AnyText, NotAllowed, Value, External}
-use Rattle.rnc_parser.specs.declared.tree.Item.{Item, Start, Define}
-use Rattle.rnc_parser.specs.declared.tree.Item.TheOpen.{Pattern-F, Item-F}
-use Rattle.rnc_parser.specs.declared.tree.Item.TheFolds.{fold-roll-Pattern, fold-roll-Item}
-use Rattle.rnc_parser.specs.declared.tree.Item.TheViews.{roll-Pattern, roll-Item}
-use Rattle.rnc_parser.specs.declared.tree.Item.TheViews as view
-use Rattle.rnc_parser.specs.Trees.{class_of, class_step, pattern_of, pattern_step, item_of, item_step, type_of, parameter_of, passed_of, method_of}
+use Rattle.schema_tree.specs.declared.tree.Method.{Method}
+use Rattle.schema_tree.specs.declared.tree.TypeName.{TypeName}
+use Rattle.schema_tree.specs.declared.tree.Parameter.{Parameter}
+use Rattle.schema_tree.specs.declared.tree.Passed.{Passed}
+use Rattle.schema_tree.specs.declared.tree.Class.{Class}
+use Rattle.schema_tree.specs.declared.tree.Class.TheOpen.{Class-F}
+use Rattle.schema_tree.specs.declared.tree.Class.TheFolds.{fold-roll-Class}
+use Rattle.schema_tree.specs.declared.tree.Class.{Plain, Prefixed}
+use Rattle.schema_tree.specs.declared.tree.Class.TheViews.{roll-Class}
+use Rattle.schema_tree.specs.declared.tree.Class.TheViews as open_class
+use Rattle.schema_tree.specs.declared.tree.Pattern.{Pattern, Ref, Parent, Empty, AnyText, NotAllowed, Value, External}
+use Rattle.schema_tree.specs.declared.tree.Item.{Item, Start, Define}
+use Rattle.schema_tree.specs.declared.tree.Item.TheOpen.{Pattern-F, Item-F}
+use Rattle.schema_tree.specs.declared.tree.Item.TheFolds.{fold-roll-Pattern, fold-roll-Item}
+use Rattle.schema_tree.specs.declared.tree.Item.TheViews.{roll-Pattern, roll-Item}
+use Rattle.schema_tree.specs.declared.tree.Item.TheViews as view
+use Rattle.schema_tree.specs.Trees.{class_of, class_step, pattern_of, pattern_step, item_of, item_step, type_of, parameter_of, passed_of, method_of}
 use denote.Hole.Carrier.{roll}
 
 pub class_choice : (cs : List Class) → class_of (open_class.Choice cs) ≡ tree.Class.choice_class (classes_of (map class_of cs))
