@@ -237,3 +237,15 @@ pub text_fault : (bytes text rest : List ℕ) (end : ℕ) (f : by.Fault) (p : �
 text_fault bytes text rest end f p same u allowed size begins (ts, r) =
     by.LexRefusal.token (subst (λ z. IsUtf8 z) same u) allowed
     (subst (λ z. by.ReadsText (chars z) ts (by.fault f p)) same (begins ts (by.fault f p) (subst (λ z. ReadsRest z by.apart rest ts (by.fault f p)) size r)))
+
+-- one more token, and the gap behind it
+pub leads_pushed : (end m n : ℕ) (j k l : Joined) (before mid rest after : List ℕ) (xs : List Lexed) (x : Lexed) {ys : List Lexed} → m ≡ end → n ≡ m → ys ≡ xs ++ x ∷ [] → Leads end j before (map placed_of xs) k mid →
+    x.place ≡ place end mid → LeadsToken m k mid (token_of x.token) rest → l ≡ after_token k (token_of x.token) → Skips n rest after → Leads end j before (map placed_of ys) l after
+leads_pushed end m n j k l before mid rest after xs x {ys = ys} e f same lead here token joined s =
+    let t = after_token k (token_of x.token) in
+    let token_here = subst (λ z. LeadsToken z k mid (token_of x.token) rest) e token in
+    let placed = subst (λ a. Leads end k mid (token_of x.token at a ∷ []) t rest) (sym here) token_here in
+    let both = leads_then end j k t before mid rest (map placed_of xs) (placed_of x ∷ []) lead placed in
+    let on = leads_skip end j t before rest after (map placed_of xs ++ placed_of x ∷ []) both (subst (λ z. Skips z rest after) (f ∙ e) s) in
+    subst (λ z. Leads end j before (map placed_of ys) z after) (sym joined)
+    (subst (λ ts. Leads end j before ts t after) (sym (ap (map placed_of) same ∙ map_push xs x)) on)

@@ -7,3 +7,4 @@ pub mod Limits
 pub mod Quotes
 pub mod Numbers
 pub mod Refusals
+pub mod SoundTokens

@@ -1,3 +1,4 @@
 pub mod Values
 pub mod Views
 pub mod Steps
+pub mod Sound

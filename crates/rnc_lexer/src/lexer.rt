@@ -4,6 +4,7 @@ ghost use Rattle.token_laws.specs.Tokens.{Placed, ◌at◌};
 ghost use Rattle.token_laws.specs.Lexing as lexing;
 ghost use Rattle.token_laws.specs.Lexing.{start_of, at_end, at_quote, apart, done, LexRefusal};
 ghost use Rattle.rnc_lexer.specs.Views.{joined_of, token_of, placed_of, IsFault};
+ghost use Rattle.rnc_lexer.specs.Sound.{AreWithin};
 ghost use Rattle.rnc_lexer.specs.Steps.{place, is_gap, Takes, BeginsText, ReadsRest, StopsAt, Leads, LeadsToken, after_token, joined_size};
 
 use crate::characters::{is_quote, text_of};
@@ -11,6 +12,7 @@ use crate::faults::LexFault;
 use crate::literals::Joined;
 use crate::tokens::{Lexed, Token, Tokens};
 use std::alloc::Global;
+use token_laws::names_are_ncnames;
 
 /// What is still to be read of a text with `end` bytes.
 #[derive(Drop)]
@@ -98,6 +100,7 @@ impl<'a> Lexer<'a> {
     // The tokens up to the end.
     fn tokens(&mut self, alloc: Global) -> Result<Vec<Lexed>, LexFault>
         ensures reads { IfOk result (λ lexed. ReadsRest self.old.end apart self.old.rest.now (map placed_of lexed.items) done) }
+        ensures within { IfOk result (λ lexed. AreWithin self.old.end (map placed_of lexed.items)) }
         ensures refused { IfErr result (λ fault. IsFault (λ f p. (ts : List Placed) × ReadsRest self.old.end apart self.old.rest.now ts (lexing.fault f p)) fault) }
     {
         let mut lexed = Vec::new(alloc);
@@ -123,5 +126,6 @@ pub fn lex(alloc: Global, bytes: &[u8]) -> Result<Tokens, LexFault>
 {
     let text = text_of(bytes)?;
     let lexed = Lexer::new(text).tokens(alloc)?;
+    names_are_ncnames();
     Ok(Tokens::new(lexed, bytes.len()))
 }

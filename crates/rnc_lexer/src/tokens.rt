@@ -1,7 +1,8 @@
 // Tokens with their places.
-ghost use Rattle.std.specs.Prelude.{◌≡◌, ◌<◌, ◌==◌, length, map};
+ghost use Rattle.std.specs.Prelude.{◌≡◌, ◌<◌, ◌^◌, ◌==◌, length, map};
 ghost use Rattle.token_laws.specs.Tokens.{Placed};
 ghost use Rattle.rnc_lexer.specs.Views.{token_of, placed_of, IsTokenAt, IsPlaceAt};
+ghost use Rattle.rnc_lexer.specs.Sound.{AreSound};
 ghost use Rattle.token_laws.specs.Tokens as model;
 
 use std::marker::Model;
@@ -87,10 +88,17 @@ impl Model for Tokens {
     ghost Value = { TokensValue };
 
     ghost view = { λ t. record { tokens = map placed_of t.lexed.items; end = t.end } };
+
+    ghost use Rattle.std.specs.Prelude.{◌<◌, ◌^◌};
+    ghost use Rattle.rnc_lexer.specs.Sound.{AreSound};
+
+    ghost invariant = { λ t. (t.end < 2 ^ 63) × AreSound t.end (map placed_of t.lexed.items) };
 }
 
 impl Tokens {
     pub(crate) fn new(lexed: Vec<Lexed>, end: usize) -> Tokens
+        requires fits { end < 2 ^ 63 }
+        requires sound { AreSound end (map placed_of lexed.items) }
         ensures tokens { result.tokens ≡ map placed_of lexed.items }
         ensures end { result.end ≡ end }
     {
@@ -127,16 +135,18 @@ impl Tokens {
         self.lexed[i].place
     }
 
-    /// The tokens in their order.
+    /// The tokens in their order. Their places are within the text, and their names are NCNames (Namespaces in XML, section 3).
     pub fn as_slice(&self) -> &[Lexed]
-        ensures { map placed_of result.now ≡ self.now.tokens }
+        ensures tokens { map placed_of result.now ≡ self.now.tokens }
+        ensures sound { AreSound self.now.end self.now.tokens }
     {
         self.lexed.as_slice()
     }
 
     /// The length of the text in bytes.
     pub fn end_place(&self) -> usize
-        ensures { result ≡ self.now.end }
+        ensures place { result ≡ self.now.end }
+        ensures fits { result < 2 ^ 63 }
     {
         self.end
     }
