@@ -5,3 +5,5 @@ pub mod Lists
 pub mod More
 pub mod Chains
 pub mod Tops
+pub mod Levels
+pub mod Wholes

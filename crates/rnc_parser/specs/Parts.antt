@@ -124,9 +124,12 @@ ReadsBody ts us b = us ≡ [] → DerivesBody ts (body_of b)
 abbrev pub BehindName : Text → ℕ → List Placed → List Placed → Body → Type 0
 BehindName n a ts us b = (start : List Placed) → ReadsBlocks start (ident n at a ∷ ts) → us ≡ [] → DerivesBody start (body_of b)
 
+abbrev pub tree_of_file : Parts → tree.File
+tree_of_file f = record { declarations = map declaration_of f.declarations; body = body_of f.body }
+
 -- the whole of a file
 abbrev pub DerivesFile : List Placed → List Placed → Parts → Type 0
-DerivesFile ts us f = Derives ts (record { declarations = map declaration_of f.declarations; body = body_of f.body })
+DerivesFile ts us f = Derives ts (tree_of_file f)
 
 -- what stands behind the annotations before a body
 abbrev pub BehindBlocks : List Placed → List Placed → Body → Type 0

@@ -1,5 +1,6 @@
 ghost use Rattle.std.specs.Prelude.{◌≡◌, ◌+◌, ◌<◌, ◌^◌, length, Some, string_bytes};
 ghost use Rattle.token_laws.specs.Tokens as model;
+ghost use Rattle.grammar_laws.specs.Prefixes.{place_at};
 ghost use Rattle.rnc_lexer.specs.Views.{symbol_of, keyword_of, token_of};
 ghost use Rattle.syntax_laws.specs.Expecting.{first, is_word, is_segment, is_name, begins_parameter, begins_declaration, begins_item, is_assign, pattern_form, class_form, item_form, declaration_form};
 ghost use Rattle.syntax_laws.specs.Expecting as part;
@@ -228,6 +229,16 @@ impl<'a> Cursor<'a> {
                 Ok(())
             }
             Token::NsName(_) | Token::Segment(_) | Token::Symbol(_) => Err(Stop::Syntax),
+        }
+    }
+
+    /// The place of the next token, or `end` where none is left.
+    pub(crate) fn place(&self, end: usize) -> usize
+        ensures { result ≡ place_at self.now end 0 }
+    {
+        match self.rest.split_first() {
+            Some((first, _rest)) => first.place,
+            None => end,
         }
     }
 

@@ -8,6 +8,8 @@ mod cursor;
 mod datatypes;
 mod literals;
 mod names;
+mod nesting;
+mod parser;
 mod patterns;
 mod prologue;
 mod schema;
@@ -15,6 +17,7 @@ mod stop;
 
 pub use classes::class;
 pub use cursor::Cursor;
+pub use parser::{ParseFault, parse};
 pub use patterns::{items, pattern};
 pub use prologue::declarations;
 pub use schema::file;
