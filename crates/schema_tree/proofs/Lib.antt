@@ -1,2 +1,4 @@
 pub mod Folds
 pub mod Places
+pub mod Leasts
+pub mod Walks

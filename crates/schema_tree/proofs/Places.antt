@@ -4,26 +4,27 @@ use Rattle.std.proofs.lemmas.Bool.{leb-false}
 use Rattle.std.specs.Prelude.{slice_get, slice_index_or, if◌then◌else◌, Bool}
 use Rattle.grammar_laws.specs.Files.{SchemaFile}
 use Rattle.schema_tree.specs.declared.files.Entry.{Entry}
-use Rattle.schema_tree.specs.Files.{places_of, number_at, base_of, AtFile, file_of, AreBased}
+use Rattle.schema_tree.specs.Files.{places_of, number_at, base_of, AtFile, file_of, AreWithin, AreBased}
+use Rattle.schema_tree.specs.Trees.{declaration_of}
 
 -- the places of all entries end where their bases do
 pub based_places : (es : List Entry) (n m : ℕ) → AreBased n m es → m ≡ n + places_of (map file_of es)
 based_places [] n m h = omega arith
-based_places (e ∷ es) n m (h, hs) =
+based_places (e ∷ es) n m ((h, v), hs) =
     let r : m ≡ n + suc e.length + places_of (map file_of es) = based_places es (n + suc e.length) m hs in omega arith
 
-based_more : (es : List Entry) (e : Entry) (n m : ℕ) → AreBased n m es → e.base ≡ m → AreBased n (m + suc e.length) (es ++ e ∷ [])
-based_more [] e n m h same = (same ∙ h, ap (λ k. k + suc e.length) h)
-based_more (d ∷ es) e n m (h, hs) same = (h, based_more es e (n + suc d.length) m hs same)
+based_more : (es : List Entry) (e : Entry) (n m : ℕ) → AreBased n m es → e.base ≡ m → AreWithin e.length (map declaration_of e.declarations) → AreBased n (m + suc e.length) (es ++ e ∷ [])
+based_more [] e n m h same v = ((same ∙ h, v), ap (λ k. k + suc e.length) h)
+based_more (d ∷ es) e n m (h, hs) same v = (h, based_more es e (n + suc d.length) m hs same v)
 
-pub based_pushed : (es : List Entry) (e : Entry) (m : ℕ) → AreBased 0 m es → e.base ≡ m → {fs : List Entry} → fs ≡ es ++ e ∷ [] → AreBased 0 (m + e.length + 1) fs
-based_pushed es e m h same {fs = fs} made =
+pub based_pushed : (es : List Entry) (e : Entry) (m : ℕ) → AreBased 0 m es → e.base ≡ m → AreWithin e.length (map declaration_of e.declarations) → {fs : List Entry} → fs ≡ es ++ e ∷ [] → AreBased 0 (m + e.length + 1) fs
+based_pushed es e m h same v {fs = fs} made =
     let k : m + suc e.length ≡ m + e.length + 1 = omega arith in
-    subst (AreBased 0 (m + e.length + 1)) (sym made) (subst (λ j. AreBased 0 j (es ++ e ∷ [])) k (based_more es e 0 m h same))
+    subst (AreBased 0 (m + e.length + 1)) (sym made) (subst (λ j. AreBased 0 j (es ++ e ∷ [])) k (based_more es e 0 m h same v))
 
 based_at : (es : List Entry) (e : Entry) (n m k : ℕ) → AreBased n m es → slice_get es k ≡ Some e → e.base ≡ n + base_of (map file_of es) k
 based_at [] e n m k h got = cc
-based_at (d ∷ es) e n m zero (h, hs) got = let s : d ≡ e = cc in omega (ap (λ x. x.base) s, arith)
+based_at (d ∷ es) e n m zero ((h, v), hs) got = let s : d ≡ e = cc in omega (ap (λ x. x.base) s, arith)
 based_at (d ∷ es) e n m (suc k) (h, hs) got =
     let r : e.base ≡ n + suc d.length + base_of (map file_of es) k = based_at es e (n + suc d.length) m k hs got in omega arith
 

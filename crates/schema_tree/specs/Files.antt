@@ -1,7 +1,8 @@
 -- The files of a schema, and the places of each.
-use Rattle.std.specs.Prelude.{◌≡◌, ℕ, zero, suc, ◌+◌, ◌-◌, if◌then◌else◌, nat_le, List, [], ◌∷◌, Some, slice_get, map}
+use Rattle.std.specs.Prelude.{◌≡◌, ℕ, zero, suc, ◌+◌, ◌-◌, ◌≤◌, ◌<◌, ◌^◌, ⊤, if◌then◌else◌, nat_le, List, [], ◌∷◌, Some, slice_get, map}
 use Rattle.grammar_laws.specs.Files.{SchemaFile}
-use Rattle.grammar_laws.specs.Files as tree
+use Rattle.grammar_laws.specs.Files as schema
+use Rattle.grammar_laws.specs.Trees as tree
 use Rattle.schema_tree.specs.declared.files.Entry.{Entry}
 use Rattle.schema_tree.specs.declared.tree.Body.{Body}
 use Rattle.schema_tree.specs.Trees.{declaration_of, body_of}
@@ -10,6 +11,9 @@ use Rattle.schema_tree.specs.Trees.{declaration_of, body_of}
 abbrev pub places_of : List SchemaFile → ℕ
 places_of [] = 0
 places_of (f ∷ fs) = suc f.length + places_of fs
+
+abbrev pub last_place : List SchemaFile → ℕ
+last_place fs = places_of fs - 1
 
 -- the number of the file in which a place stands
 abbrev pub number_at : List SchemaFile → ℕ → ℕ
@@ -29,15 +33,33 @@ AtFile fs k P = (f : SchemaFile) × (slice_get fs k ≡ Some f) × P f
 abbrev pub file_of : Entry → SchemaFile
 file_of e = record { name = e.name; length = e.length; inherited = e.inherited; declarations = map declaration_of e.declarations }
 
--- the entries' bases, from n on up to m
+abbrev pub IsUriWithin : ℕ → tree.Uri → Type 0
+IsUriWithin n (tree.literal l) = ⊤
+IsUriWithin n (tree.inherit a) = a ≤ n
+
+abbrev pub IsWithin : ℕ → tree.Declaration → Type 0
+IsWithin n (tree.namespace_prefix p u a) = (a ≤ n) × IsUriWithin n u
+IsWithin n (tree.default_namespace p u a) = (a ≤ n) × IsUriWithin n u
+IsWithin n (tree.datatypes p l a) = a ≤ n
+
+-- each place in the declarations is at most n
+abbrev pub AreWithin : ℕ → List tree.Declaration → Type 0
+AreWithin n [] = ⊤
+AreWithin n (d ∷ ds) = IsWithin n d × AreWithin n ds
+
+-- the entries' bases, from n on up to m, with the places of their declarations in them
 abbrev pub AreBased : ℕ → ℕ → List Entry → Type 0
 AreBased n m [] = m ≡ n
-AreBased n m (e ∷ es) = (e.base ≡ n) × AreBased (n + suc e.length) m es
+AreBased n m (e ∷ es) = ((e.base ≡ n) × AreWithin e.length (map declaration_of e.declarations)) × AreBased (n + suc e.length) m es
+
+-- the same from 0 on, up to a number of the machine
+abbrev pub AreFitting : List Entry → Type 0
+AreFitting es = (m : ℕ) × (m < 2 ^ 64) × AreBased 0 m es
 
 -- the files of a schema and its body
 pub record Whole : Type 0 where
   pub files : List SchemaFile
   pub body : Body
 
-abbrev pub full_of : Whole → tree.Full
+abbrev pub full_of : Whole → schema.Full
 full_of w = record { files = w.files; body = body_of w.body }

@@ -1,2 +1,5 @@
 pub mod Trees
 pub mod Files
+pub mod Features
+pub mod Least
+pub mod Sound

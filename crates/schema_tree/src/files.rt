@@ -1,6 +1,6 @@
 // The files of a schema.
 ghost use Rattle.std.specs.Prelude.{◌≡◌, ◌<◌, ◌+◌, ◌^◌, ◌==◌, suc, [], ◌∷◌, ◌++◌, length, map, slice_get, Some, OnOk, OnErr};
-ghost use Rattle.schema_tree.specs.Files.{places_of, number_at, base_of, AtFile, file_of};
+ghost use Rattle.schema_tree.specs.Files.{places_of, number_at, base_of, AtFile, AreWithin, AreFitting, file_of};
 ghost use Rattle.schema_tree.specs.Trees.{declaration_of};
 
 use crate::tree::Declaration;
@@ -11,12 +11,12 @@ use text_atoms::Text;
 
 /// A file, and where its places begin.
 #[derive(Drop)]
-struct Entry {
-    name: Text,
-    length: usize,
-    base: usize,
-    inherited: Text,
-    declarations: Items<Declaration>,
+pub(crate) struct Entry {
+    pub(crate) name: Text,
+    pub(crate) length: usize,
+    pub(crate) base: usize,
+    pub(crate) inherited: Text,
+    pub(crate) declarations: Items<Declaration>,
 }
 
 /// The files of a schema, each as often as it is named, in the order in which they are read.
@@ -29,13 +29,14 @@ pub struct FileList {
 impl Model for FileList {
     ghost use Rattle.std.specs.Prelude.{List, map};
     ghost use Rattle.grammar_laws.specs.Files.{SchemaFile};
+    ghost use Rattle.std.specs.Prelude.{◌<◌, ◌^◌};
     ghost use Rattle.schema_tree.specs.Files.{file_of, AreBased};
 
     ghost Value = { List SchemaFile };
 
     ghost view = { λ l. map file_of l.entries.items };
 
-    ghost invariant = { λ l. AreBased 0 l.places l.entries.items };
+    ghost invariant = { λ l. (l.places < 2 ^ 64) × AreBased 0 l.places l.entries.items };
 }
 
 impl FileList {
@@ -57,7 +58,8 @@ impl FileList {
         inherited: Text,
         declarations: Items<Declaration>,
     ) -> Result<(), AllocError>
-        requires { places_of self.old + suc length < 2 ^ 64 }
+        requires fits { places_of self.old + suc length < 2 ^ 64 }
+        requires places { AreWithin length (map declaration_of declarations) }
         ensures ok { OnOk result (self.new ≡ self.old ++ record { name = name; length = length; inherited = inherited; declarations = map declaration_of declarations } ∷ []) }
         ensures err { OnErr result (self.new ≡ self.old) }
     {
@@ -130,6 +132,14 @@ impl FileList {
         ensures { AtFile self.now file (λ f. f.declarations ≡ map declaration_of result.now) }
     {
         &self.entry(file).declarations
+    }
+
+    /// The files in their order.
+    pub(crate) fn entries(&self) -> &[Entry]
+        ensures files { map file_of result.now ≡ self.now }
+        ensures based { AreFitting result.now }
+    {
+        self.entries.as_slice()
     }
 
     /// The declarations of the last file.

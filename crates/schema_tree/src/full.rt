@@ -1,7 +1,8 @@
 // The tree of a whole schema. Contracts see the files and the body; `full_of` makes the tree of the definitions of them.
 ghost use Rattle.std.specs.Prelude.{◌≡◌, ◌≢◌, ◌<◌, [], length, map};
-ghost use Rattle.schema_tree.specs.Files.{places_of, number_at, base_of, AtFile};
-ghost use Rattle.schema_tree.specs.Trees.{declaration_of};
+ghost use Rattle.schema_tree.specs.Files.{places_of, last_place, number_at, base_of, AtFile};
+ghost use Rattle.schema_tree.specs.Sound.{IsSoundBody};
+ghost use Rattle.schema_tree.specs.Trees.{declaration_of, body_of};
 
 use crate::files::FileList;
 use crate::tree::{Body, Declaration};
@@ -37,16 +38,28 @@ impl Model for Full {
 
     ghost view = { λ f. record { files = f.files; body = f.body } };
 
-    ghost invariant = { λ f. f.files ≢ [] };
+    ghost use Rattle.schema_tree.specs.Files.{last_place};
+    ghost use Rattle.schema_tree.specs.Sound.{IsSoundBody};
+    ghost use Rattle.schema_tree.specs.Trees.{body_of};
+
+    ghost invariant = { λ f. (f.files ≢ []) × IsSoundBody (last_place f.files) (body_of f.body) };
 }
 
 impl Full {
-    /// The tree of these files with the body.
+    /// The tree of these files, one or more, with the body. Its places are those of the files, its local names are NCNames, and
+    /// each list of a group, a choice or an interleave has two members or more.
     pub fn of_files(files: FileList, body: Body) -> Full
-        requires { files ≢ [] }
+        requires some { files ≢ [] }
+        requires sound { IsSoundBody (last_place files) (body_of body) }
         ensures { result ≡ record { files = files; body = body } }
     {
         Full { files, body }
+    }
+
+    pub(crate) fn files(&self) -> &FileList
+        ensures { result.now ≡ self.now.files }
+    {
+        &self.files
     }
 
     /// How many files it has, one or more.
@@ -100,7 +113,8 @@ impl Full {
 
     /// What it consists of besides the declarations.
     pub fn body(&self) -> &Body
-        ensures { result.now ≡ self.now.body }
+        ensures body { result.now ≡ self.now.body }
+        ensures sound { IsSoundBody (last_place self.now.files) (body_of result.now) }
     {
         &self.body
     }
@@ -110,6 +124,7 @@ impl Full {
         requires { length self.files ≡ 1 }
         ensures declarations { AtFile self.files 0 (λ f. f.declarations ≡ map declaration_of result.declarations) }
         ensures body { result.body ≡ self.body }
+        ensures sound { IsSoundBody (last_place self.files) (body_of result.body) }
     {
         let Full { files, body } = self;
         Parts {

@@ -5,7 +5,7 @@ use Rattle.schema_tree.proofs.files.FileList.entry.Goals as goal
 
 pub returns-clause-base : goal.returns-clause-base
 returns-clause-base c =
-    let here = based_here c.self.inside.entries.items c.index.result.now 0 c.self.inside.places c.args.file c.self.invariant
+    let here = based_here c.self.inside.entries.items c.index.result.now 0 c.self.inside.places c.args.file c.self.invariant.1
         (subst (λ z. c.args.file < length z) (sym c.self.view_is) c.requires) c.index.ensures in
     let same = ap (λ z. base_of z c.args.file) c.self.view_is in
     omega (arith, here, same)
