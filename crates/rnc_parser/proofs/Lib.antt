@@ -7,3 +7,5 @@ pub mod Chains
 pub mod Tops
 pub mod Levels
 pub mod Wholes
+pub mod SoundTrees
+pub mod Within

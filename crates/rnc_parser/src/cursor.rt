@@ -1,6 +1,7 @@
 ghost use Rattle.std.specs.Prelude.{◌≡◌, ◌+◌, ◌<◌, ◌^◌, length, Some, string_bytes};
 ghost use Rattle.token_laws.specs.Tokens as model;
 ghost use Rattle.grammar_laws.specs.Prefixes.{place_at};
+ghost use Rattle.rnc_lexer.specs.Sound.{AreSound};
 ghost use Rattle.rnc_lexer.specs.Views.{symbol_of, keyword_of, token_of};
 ghost use Rattle.syntax_laws.specs.Expecting.{first, is_word, is_segment, is_name, begins_parameter, begins_declaration, begins_item, is_assign, pattern_form, class_form, item_form, declaration_form};
 ghost use Rattle.syntax_laws.specs.Expecting as part;
@@ -36,7 +37,8 @@ impl<'a> Model for Cursor<'a> {
 impl<'a> Cursor<'a> {
     /// All tokens are left.
     pub fn new(tokens: &'a Tokens) -> Cursor<'a>
-        ensures { result ≡ tokens.now.tokens }
+        ensures tokens { result ≡ tokens.now.tokens }
+        ensures sound { AreSound tokens.now.end result }
     {
         Cursor {
             rest: tokens.as_slice(),

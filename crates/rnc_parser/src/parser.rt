@@ -1,9 +1,11 @@
 // Whole schemas, with the place where they are refused.
-ghost use Rattle.std.specs.Prelude.{◌≡◌, ◌<◌, ◌^◌, IfOk, IfErr};
+ghost use Rattle.std.specs.Prelude.{◌≡◌, ◌<◌, ◌^◌, map, IfOk, IfErr};
 ghost use Rattle.grammar_laws.specs.Trees.{File};
 ghost use Rattle.grammar_laws.specs.Files.{of_one};
 ghost use Rattle.grammar_laws.specs.Faults.{Parses};
-ghost use Rattle.schema_tree.specs.Files.{full_of};
+ghost use Rattle.schema_tree.specs.Files.{full_of, AreWithin};
+ghost use Rattle.schema_tree.specs.Trees.{declaration_of, body_of};
+ghost use Rattle.schema_tree.specs.Sound.{IsSoundBody};
 ghost use Rattle.rnc_parser.specs.Parts.{tree_of_file};
 ghost use Rattle.rnc_parser.specs.Refusals.{IsRefusal};
 
@@ -66,7 +68,9 @@ pub fn parse(alloc: Global, tokens: &Tokens) -> Result<Full, ParseFault>
 
 /// The tree of a file of so many bytes.
 fn one_file(alloc: Global, length: usize, parts: Parts) -> Result<Full, AllocError>
-    requires { length < 2 ^ 63 }
+    requires fits { length < 2 ^ 63 }
+    requires places { AreWithin length (map declaration_of parts.declarations) }
+    requires sound { IsSoundBody length (body_of parts.body) }
     ensures { IfOk result (λ full. full_of full ≡ of_one length (tree_of_file parts)) }
 {
     let Parts { declarations, body } = parts;

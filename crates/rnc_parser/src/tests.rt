@@ -1,8 +1,9 @@
 // Parts of schemas, read from the tokens of a text.
-use crate::{Cursor, class, declarations, file, items, pattern};
+use crate::{Cursor, ParseFault, class, declarations, file, items, parse, pattern};
 use rnc_lexer::lex;
+use schema_tree::{Feature, first_reference, refused_feature};
 use sqlite_items::Items;
-use std::alloc::Global;
+use std::alloc::{AllocError, Global};
 use std::test::Fail;
 
 /// A part of a schema.
@@ -85,6 +86,117 @@ fn parts(rt: HostRuntime) -> Result<(), Fail> {
     ];
     for (i, (wanted, text, succeeds, left)) in rows.iter().enumerate() {
         assert!(rt; ends_so(alloc, *wanted, *text, *succeeds, *left), "row {i}");
+    }
+    Ok(())
+}
+
+/// How a text ends: as a schema with a feature or without, or refused.
+#[derive(Clone, Copy, PartialEq, Eq)]
+enum End {
+    Schema(Option<(Feature, usize)>, Option<usize>),
+    Refused(ParseFault),
+    NoTokens,
+}
+
+fn end_of(alloc: Global, text: &str) -> End {
+    match lex(alloc, text.as_bytes()) {
+        Ok(tokens) => match parse(alloc, &tokens) {
+            Ok(full) => End::Schema(refused_feature(&full), first_reference(&full)),
+            Err(fault) => End::Refused(fault),
+        },
+        Err(_) => End::NoTokens,
+    }
+}
+
+/// Whether each text ends as said.
+fn end_so(alloc: Global, rows: &[(&str, End)]) -> bool {
+    for (text, end) in rows {
+        if end_of(alloc, *text) != *end {
+            return false;
+        }
+    }
+    true
+}
+
+#[test]
+fn schemas(rt: HostRuntime) -> Result<(), Fail> {
+    let rows = [
+        ("element a { empty }", End::Schema(None, None)),
+        (
+            "[ x = \"1\" ] element a { empty >> b [ \"(\" ] }",
+            End::Schema(None, None),
+        ),
+        (
+            "element a {",
+            End::Refused(ParseFault::Syntax { at: 11 }),
+        ),
+        ("a, b | c", End::Refused(ParseFault::Syntax { at: 5 })),
+        (
+            "[ a ] x [ b ]",
+            End::Refused(ParseFault::Syntax { at: 8 }),
+        ),
+        (
+            "element a { list { \"x\" } }",
+            End::Schema(Some((Feature::List, 12)), None),
+        ),
+        (
+            "element a { token { minLength = \"1\" } }",
+            End::Schema(Some((Feature::Parameter, 20)), None),
+        ),
+        (
+            "element a { xsd:date }",
+            End::Schema(Some((Feature::ForeignType, 12)), None),
+        ),
+        (
+            "datatypes b = '' datatypes b = 'u' element a { b:string | list { xsd:token } }",
+            End::Schema(Some((Feature::ForeignType, 47)), None),
+        ),
+        (
+            "include \"x.rnc\"",
+            End::Schema(Some((Feature::Include, 0)), Some(0)),
+        ),
+        (
+            "a = list { external \"x\" inherit = inherit }",
+            End::Schema(Some((Feature::List, 4)), Some(11)),
+        ),
+        (
+            "default namespace = inherit element a { empty }",
+            End::Schema(Some((Feature::Inherit, 20)), None),
+        ),
+        (
+            "namespace inherit = '' element inherit:a { empty }",
+            End::Schema(None, None),
+        ),
+    ];
+    assert!(rt; end_so(rt.alloc(), rows.as_slice()));
+    Ok(())
+}
+
+/// A text, and then so many parentheses.
+fn nested(alloc: Global, before: &str, levels: usize) -> Result<String, AllocError> {
+    let mut text = String::from_str(alloc, before)?;
+    for _ in 0..levels {
+        text.push('(')?;
+    }
+    text.push_str("empty")?;
+    for _ in 0..levels {
+        text.push(')')?;
+    }
+    Ok(text)
+}
+
+#[test]
+fn depths(rt: HostRuntime) -> Result<(), Fail> {
+    let rows = [
+        ("", 128, End::Schema(None, None)),
+        ("", 129, End::Refused(ParseFault::TooDeep { at: 128 })),
+        (",", 129, End::Refused(ParseFault::TooDeep { at: 129 })),
+        ("[((] ", 128, End::Schema(None, None)),
+        ("}", 129, End::Refused(ParseFault::Syntax { at: 0 })),
+    ];
+    for (before, levels, end) in rows {
+        let text = nested(rt.alloc(), before, levels)?;
+        assert!(rt; end_of(rt.alloc(), text.as_str()) == end, "{before:?} {levels}");
     }
     Ok(())
 }
