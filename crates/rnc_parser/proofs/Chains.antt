@@ -8,7 +8,7 @@ use Rattle.grammar_laws.specs.Grammar as by
 use Rattle.grammar_laws.proofs.Loops.{LeadMembers, no_members, next_member, last_member, LeadItems, no_items_yet, next_item, next_annotation, all_items_read}
 use Rattle.syntax_laws.specs.Expecting.{Part, pass, become, refuse, first, next, Stands, is_symbol, begins_item}
 use Rattle.syntax_laws.specs.Expecting as part
-use Rattle.rnc_parser.specs.Reading.{Fails, Parsed, parsed}
+use Rattle.rnc_parser.specs.Reading.{Parsed, parsed}
 use Rattle.rnc_parser.specs.Parts.{ReadsOperand, BehindType, BehindPrimary, BehindParticle, ReadsMore, AreInner, IsInnerItem, ReadsNext, ReadsMoreItems}
 use Rattle.schema_tree.specs.Trees.{pattern_of, item_of, type_of, parameter_of}
 use Rattle.rnc_parser.specs.declared.stop.Stop.{Stop}
@@ -26,9 +26,6 @@ IsNot s ts = (a : ℕ) (xs : List Placed) → ts ≡ symbol s at a ∷ xs → �
 -- the same, where a test has left the tokens as they were
 pub moved : {T : Type 0} {R : List Placed → List Placed → T → Type 0} {xs : List Part} {ts t1 us : List Placed} {r : Result T Stop} → t1 ≡ ts → Parsed xs R t1 r us → Parsed xs R ts r us
 moved {R = R} {xs = xs} {us = us} {r = r} e m = subst (λ z. Parsed xs R z r us) e m
-
-pub moved_fails : {xs : List Part} {ts t1 us : List Placed} {d : Stop} → t1 ≡ ts → Fails xs t1 us d → Fails xs ts us d
-moved_fails {xs = xs} {us = us} {d = d} e m = subst (λ z. Fails xs z us d) e m
 
 no_sign : {ts : List Placed} → IsNot comma ts → IsNot bar ts → IsNot ampersand ts → Stands (part.more_patterns ∷ []) ts [] ts
 no_sign {ts = ts} h i j =

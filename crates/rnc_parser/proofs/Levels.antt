@@ -1,9 +1,9 @@
 -- The walk over tokens that finds the first brace or parenthesis that is too deep.
-use Rattle.std.proofs.Common.{◌≡◌, ℕ, zero, suc, ◌+◌, ◌≤◌, ◌<◌, ◌⊎◌, inl, inr, Bool, true, false, ◌==◌, ◌&&◌, List, [], ◌∷◌, ◌++◌, length, map, refl, sym, ap, ap₂, ◌∙◌, subst, arith, append_assoc, append-nil, length-append}
+use Rattle.std.proofs.Common.{◌≡◌, ℕ, suc, ◌+◌, ◌≤◌, ◌<◌, ◌⊎◌, inl, inr, Bool, true, false, ◌==◌, ◌&&◌, List, [], ◌∷◌, ◌++◌, length, map, refl, sym, ap, ap₂, ◌∙◌, subst, arith, append_assoc, append-nil, length-append}
 use Rattle.std.specs.Prelude.{if◌then◌else◌}
 use Rattle.std.proofs.lemmas.Bool.{eqb-true, eq-eqb, and_parts, and_from, true≢false}
 use Rattle.token_laws.specs.Tokens.{Token, Placed, ◌at◌}
-use Rattle.grammar_laws.specs.Nesting.{opens, closes, opens_block, closes_block, count, counting, HasLevel, TooDeep, IsTooDeep}
+use Rattle.grammar_laws.specs.Nesting.{opens, closes, opens_block, closes_block, count, counting, HasLevel, TooDeep}
 use Rattle.rnc_lexer.specs.declared.tokens.Lexed.{Lexed}
 use Rattle.rnc_lexer.specs.Views.{token_of, placed_of}
 use Rattle.rnc_parser.specs.declared.nesting.Counts.{Counts}
@@ -81,12 +81,12 @@ no_counts e f g h = record { blocks_opened = e; blocks_closed = f; opened = g; c
 
 -- the counts behind one more token are its counts
 more_counts : {ts : List Placed} {c : Counts} (t : Token) (a : ℕ) → AreCounts ts c → AreCounts (ts ++ t at a ∷ []) (behind c t)
-more_counts {ts = ts} {c = c} t a h = record
-  { blocks_opened = ap (λ n. if opens_block t then suc n else n) h.blocks_opened ∙ sym (count_more opens_block ts t a)
-  ; blocks_closed = ap (λ n. if closes_block t then suc n else n) h.blocks_closed ∙ sym (count_more closes_block ts t a)
-  ; opened = ap (λ n. if counts_here c && opens t then suc n else n) h.opened ∙ sym (level_more opens ts t a (counts_here c) here)
-  ; closed = ap (λ n. if counts_here c && closes t then suc n else n) h.closed ∙ sym (level_more closes ts t a (counts_here c) here)
-  }
+more_counts {ts = ts} {c = c} t a h = record {
+  blocks_opened = ap (λ n. if opens_block t then suc n else n) h.blocks_opened ∙ sym (count_more opens_block ts t a);
+  blocks_closed = ap (λ n. if closes_block t then suc n else n) h.blocks_closed ∙ sym (count_more closes_block ts t a);
+  opened = ap (λ n. if counts_here c && opens t then suc n else n) h.opened ∙ sym (level_more opens ts t a (counts_here c) here);
+  closed = ap (λ n. if counts_here c && closes t then suc n else n) h.closed ∙ sym (level_more closes ts t a (counts_here c) here);
+}
   where
     here : counts_here c ≡ (count opens_block ts == count closes_block ts)
     here = ap₂ (λ m n. m == n) h.blocks_opened h.blocks_closed
@@ -169,12 +169,12 @@ start h = record { before = []; spelled = refl; counts = h; none = λ xs ys u b 
     no (z ∷ xs) ys x e = cc
 
 pub step : {all us : List Placed} {c : Counts} {t : Token} {a : ℕ} → Walked all c (t at a ∷ us) → is_too_deep c t ≡ false → Walked all (behind c t) us
-step {us = us} {t = t} {a = a} w e = record
-  { before = w.before ++ t at a ∷ []
-  ; spelled = w.spelled ∙ sym (append_assoc w.before (t at a ∷ []) us)
-  ; counts = more_counts t a w.counts
-  ; none = none_more t a w.none (no_level_here t w.counts e)
-  }
+step {us = us} {t = t} {a = a} w e = record {
+  before = w.before ++ t at a ∷ [];
+  spelled = w.spelled ∙ sym (append_assoc w.before (t at a ∷ []) us);
+  counts = more_counts t a w.counts;
+  none = none_more t a w.none (no_level_here t w.counts e);
+}
 
 pub found : {all us : List Placed} {c : Counts} {t : Token} {a : ℕ} → Walked all c (t at a ∷ us) → is_too_deep c t ≡ true → TooDeep all a
 found {us = us} {t = t} w e = (w.before, t, us, record { spelled = w.spelled; deep = level_here t w.counts e; first = w.none })

@@ -192,9 +192,6 @@ pub include_read : {ts t1 t2 t3 t4 : List Placed} {a : ℕ} {l : Text} {h : Opti
     ReadsItem ts t4 (tree.Item.include l h is a)
 include_read {t4 = t4} {a = a} {l = l} {h = h} {is = is} w r i n = subst (λ z. ReadsItem z t4 (tree.Item.include l h is a)) (sym (keyword_first w)) (by.include r i n)
 
-pub inner_read : {ts t1 t2 t3 : List Placed} {b : ℕ} {is : tree.Items} → Eats open_brace ts true t1 → ReadsItems t1 t2 is → HasNoInclude is → Signs close_brace t2 b t3 → ReadsInner ts t3 is
-inner_read {t1 = t1} {t3 = t3} {is = is} (a, e) r h s = subst (λ z. ReadsInner z t3 is) (sym e) (by.inner (subst (λ z. ReadsItems t1 z is) (symbol_first s) r) h)
-
 pub no_inner_read : {ts us : List Placed} → Eats open_brace ts false us → ReadsInner ts us tree.Items.no_item
 no_inner_read {ts = ts} (e, h) = subst (λ z. ReadsInner ts z tree.Items.no_item) (sym e) by.no_inner
 

@@ -1,15 +1,15 @@
 -- What is read from tokens that are sound is a sound tree.
-use Rattle.std.proofs.Common.{◌≡◌, ℕ, zero, suc, ◌≤◌, ◌<◌, arith, true, List, [], ◌∷◌, ◌++◌, length, Option, Some, None, refl, sym, ap, ◌∙◌, subst}
+use Rattle.std.proofs.Common.{◌≡◌, ℕ, ◌≤◌, arith, true, List, [], ◌∷◌, ◌++◌, Option, refl, sym, ap, ◌∙◌, subst}
 use Rattle.rng_model.specs.Texts.{Text}
 use Rattle.rng_model.specs.Names.{is_ncname, is_name_start, is_name_char}
 use Rattle.std.specs.Str.{chars, is_utf8}
 use Rattle.token_laws.specs.Tokens.{Keyword, Symbol, Token, keyword, ident, cname, Placed, ◌at◌}
 use Rattle.token_laws.specs.Tokens as word
 use Rattle.token_laws.specs.Spellings.{keyword_text}
-use Rattle.grammar_laws.specs.Trees.{TypeName, Parameter, Passed, Class, Classes, Pattern, Patterns, more_patterns, no_pattern, Item, Items, Body, File}
+use Rattle.grammar_laws.specs.Trees.{TypeName, Parameter, Passed, Class, Classes, Pattern, Patterns, more_patterns, Item, Items, Body, File}
 use Rattle.grammar_laws.specs.Grammar.{IsAnyId, ReadsClass, ReadsAlternatives, ReadsSimple, ReadsBareClass, ReadsClassExcept, IsType, ReadsParameters, ReadsBraces, ReadsInherit, IsConnector, IsPostfix, ReadsPattern, ReadsMembers, ReadsParticle, ReadsPrimary, ReadsBare, ReadsItems, ReadsItem, ReadsInner, DerivesBody, Derives}
 use Rattle.grammar_laws.specs.Grammar as by
-use Rattle.grammar_laws.proofs.Fronts.{part_literal, part_block, part_blocks, part_declarations, part_class, part_simple, part_braces, part_inherit, part_particle, part_primary, part_bare, part_item}
+use Rattle.grammar_laws.proofs.Fronts.{part_literal, part_block, part_blocks, part_declarations, part_class, part_simple, part_braces, part_inherit, part_particle, part_item}
 use Rattle.rnc_lexer.specs.Sound.{HasNcNames, AreSound}
 use Rattle.schema_tree.specs.Sound.{IsSoundClass, AreSoundClasses, HasTwoClasses, HasTwo, IsSoundType, AreSoundParameters, IsSoundPassed, IsSoundPattern, AreSoundPatterns, IsSoundItem, AreSoundItems, IsSoundBody}
 

@@ -154,9 +154,6 @@ no_symbol s (symbol t at a ∷ ts) h = go (eqb_tells (symbol_number t) (symbol_n
     go (inr (e, f)) = e
 
 -- the symbol is next
-pub symbol_next : (s : Symbol) (a : ℕ) {ts vs : List Placed} → ts ≡ symbol s at a ∷ vs → is_symbol s (first ts) ≡ true
-symbol_next s a e = ap (λ z. is_symbol s (first z)) e ∙ eq-eqb (symbol_number s) (symbol_number s) refl
-
 pub symbol_passes : (s : Symbol) (a : ℕ) → is_symbol s (Some (symbol s)) ≡ true
 symbol_passes s a = eq-eqb (symbol_number s) (symbol_number s) refl
 

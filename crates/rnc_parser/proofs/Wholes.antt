@@ -1,5 +1,5 @@
 -- Whole schemas: the tree that is read, or the place of the syntax error.
-use Rattle.std.proofs.Common.{◌≡◌, ℕ, List, [], ◌∷◌, Ok, Err, refl, sym, ap, ◌∙◌, subst}
+use Rattle.std.proofs.Common.{◌≡◌, ℕ, List, Ok, Err, sym, ap, ◌∙◌, subst}
 use Rattle.token_laws.specs.Tokens.{Placed}
 use Rattle.grammar_laws.specs.Trees.{File}
 use Rattle.grammar_laws.specs.Grammar.{Derives}
@@ -12,7 +12,7 @@ use Rattle.grammar_laws.specs.Prefixes.{place_at}
 use Rattle.syntax_laws.specs.Expecting.{Part, Sticks}
 use Rattle.schema_tree.specs.declared.full.Parts.{Parts}
 use Rattle.rnc_parser.specs.Parts.{DerivesFile, tree_of_file}
-use Rattle.rnc_parser.specs.Reading.{Fails, at_token, Parsed, parsed, failed}
+use Rattle.rnc_parser.specs.Reading.{at_token, Parsed, parsed, failed}
 use Rattle.rnc_parser.specs.declared.stop.Stop.{Stop}
 
 pub tree_read : {xs : List Part} {ts start us : List Placed} {m n : ℕ} {v : Parts} {w : schema.Full} → start ≡ ts → ((a : ℕ) → TooDeep ts a → ⊥) → Parsed xs DerivesFile start (Ok v) us →

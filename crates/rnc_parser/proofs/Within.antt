@@ -1,6 +1,6 @@
 -- The places of the declarations that are read are places of the text.
-use Rattle.std.proofs.Common.{◌≡◌, ℕ, ◌≤◌, List, [], ◌∷◌, ◌++◌, map, Ok, refl, sym, ◌∙◌, subst}
-use Rattle.token_laws.specs.Tokens.{Placed, ◌at◌}
+use Rattle.std.proofs.Common.{ℕ, List, map, Ok}
+use Rattle.token_laws.specs.Tokens.{Placed}
 use Rattle.grammar_laws.specs.Trees as tree
 use Rattle.grammar_laws.specs.Grammar.{ReadsUri, ReadsDeclaration, ReadsDeclarations}
 use Rattle.grammar_laws.specs.Grammar as by

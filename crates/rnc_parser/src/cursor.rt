@@ -9,8 +9,8 @@ ghost use Rattle.rnc_parser.specs.Reading.{Is, Eats, Takes, InBlock, AtEnd, IsTy
 
 use crate::names::keyword_name;
 use crate::stop::Stop;
-use schema_tree::{Method, TypeName};
 use rnc_lexer::{Keyword, Lexed, Symbol, Token, Tokens};
+use schema_tree::{Method, TypeName};
 use std::alloc::Global;
 use std::marker::Model;
 use syntax_laws::{ClassForm, DeclarationForm, ItemForm, PatternForm};

@@ -9,8 +9,8 @@ use crate::annotations::blocks;
 use crate::cursor::Cursor;
 use crate::literals::literal;
 use crate::stop::Stop;
-use schema_tree::{Parameter, Passed};
 use rnc_lexer::{Keyword, Symbol};
+use schema_tree::{Parameter, Passed};
 use sqlite_items::Items;
 use std::alloc::Global;
 

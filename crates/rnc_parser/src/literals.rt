@@ -6,8 +6,8 @@ ghost use Rattle.schema_tree.specs.Trees.{uri_of};
 
 use crate::cursor::Cursor;
 use crate::stop::Stop;
-use schema_tree::Uri;
 use rnc_lexer::{Keyword, Symbol};
+use schema_tree::Uri;
 use std::alloc::Global;
 use text_atoms::Text;
 

@@ -69,7 +69,10 @@ fn opens(token: &Token) -> bool
 fn closes(token: &Token) -> bool
     ensures { result ≡ closes (token_of token.now) }
 {
-    matches!(token, Token::Symbol(Symbol::CloseBrace | Symbol::CloseParen))
+    matches!(
+        token,
+        Token::Symbol(Symbol::CloseBrace | Symbol::CloseParen)
+    )
 }
 
 fn opens_block(token: &Token) -> bool

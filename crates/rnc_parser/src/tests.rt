@@ -126,15 +126,9 @@ fn schemas(rt: HostRuntime) -> Result<(), Fail> {
             "[ x = \"1\" ] element a { empty >> b [ \"(\" ] }",
             End::Schema(None, None),
         ),
-        (
-            "element a {",
-            End::Refused(ParseFault::Syntax { at: 11 }),
-        ),
+        ("element a {", End::Refused(ParseFault::Syntax { at: 11 })),
         ("a, b | c", End::Refused(ParseFault::Syntax { at: 5 })),
-        (
-            "[ a ] x [ b ]",
-            End::Refused(ParseFault::Syntax { at: 8 }),
-        ),
+        ("[ a ] x [ b ]", End::Refused(ParseFault::Syntax { at: 8 })),
         (
             "element a { list { \"x\" } }",
             End::Schema(Some((Feature::List, 12)), None),
@@ -196,7 +190,10 @@ fn depths(rt: HostRuntime) -> Result<(), Fail> {
     ];
     for (before, levels, end) in rows {
         let text = nested(rt.alloc(), before, levels)?;
-        assert!(rt; end_of(rt.alloc(), text.as_str()) == end, "{before:?} {levels}");
+        assert!(rt;
+            end_of(rt.alloc(), text.as_str()) == end,
+            "{before:?} {levels}"
+        );
     }
     Ok(())
 }

@@ -1,11 +1,8 @@
 -- The least of what stands in the parts of a tree.
-use Rattle.std.proofs.Common.{◌≡◌, ℕ, ◌≤◌, ◌<◌, ◌⊎◌, inl, inr, Bool, true, false, Option, Some, None, refl, sym, subst, arith}
+use Rattle.std.proofs.Common.{ℕ, ◌≤◌, ◌⊎◌, inl, inr, Bool, Option, Some, None, sym, subst, arith}
 use Rattle.std.specs.Bool.{⊤}
 use Rattle.schema_tree.specs.declared.features.Feature.{Feature}
-use Rattle.schema_tree.specs.Features.{Is, IsReference, HasFeature, HasReference}
-use Rattle.schema_tree.specs.Least.{Wants, IsLeast, IsEarlier, IsFirst}
-
-
+use Rattle.schema_tree.specs.Least.{Wants, IsLeast, IsEarlier}
 
 none_left : (w : Bool) (F G : Feature → ℕ → Type 0) (y : Option (Feature × ℕ)) → IsLeast w F None → IsLeast w G y → IsLeast w (λ f a. F f a ⊎ G f a) y
 none_left w F G None h k = neither
@@ -90,11 +87,11 @@ least_bound w P None f a h want p = h f a want p
 least_bound w P (Some y) f a h want p = h.1 f a want p
 
 pub gather_more : (w : Bool) (A P R : Feature → ℕ → Type 0) (x y z : Option (Feature × ℕ)) → Gathered w A (λ f a. P f a ⊎ R f a) x → IsLeast w P y → IsEarlier x y z → Gathered w A R z
-gather_more w A P R x y z g h e = record
-  { came = gathered_came w A P R x y z g h e
-  ; left = λ f a want p. go f a want (g.left f a want p)
-  ; part = λ f a r. g.part f a (inr r)
-  }
+gather_more w A P R x y z g h e = record {
+  came = gathered_came w A P R x y z g h e;
+  left = λ f a want p. go f a want (g.left f a want p);
+  part = λ f a r. g.part f a (inr r);
+}
   where
     go : (f : Feature) (a : ℕ) → Wants w f → NotAfter x a ⊎ (P f a ⊎ R f a) → NotAfter z a ⊎ R f a
     go f a want (inl n) = inl (first_kept x y z a e n)

@@ -1,10 +1,10 @@
 -- The files of a schema, and the places of each.
-use Rattle.std.proofs.Common.{◌≡◌, ℕ, zero, suc, ◌+◌, ◌-◌, ◌≤◌, ◌<◌, true, false, nat_le, List, [], ◌∷◌, ◌++◌, map, length, Some, refl, sym, ap, ◌∙◌, subst, arith}
+use Rattle.std.proofs.Common.{◌≡◌, ℕ, zero, suc, ◌+◌, ◌-◌, ◌<◌, true, false, nat_le, List, [], ◌∷◌, ◌++◌, map, length, Some, refl, sym, ap, ◌∙◌, subst, arith}
 use Rattle.std.proofs.lemmas.Bool.{leb-false}
 use Rattle.std.specs.Prelude.{slice_get, slice_index_or, if◌then◌else◌, Bool}
 use Rattle.grammar_laws.specs.Files.{SchemaFile}
 use Rattle.schema_tree.specs.declared.files.Entry.{Entry}
-use Rattle.schema_tree.specs.Files.{places_of, number_at, base_of, AtFile, file_of, AreWithin, AreBased}
+use Rattle.schema_tree.specs.Files.{places_of, number_at, base_of, file_of, AreWithin, AreBased}
 use Rattle.schema_tree.specs.Trees.{declaration_of}
 
 -- the places of all entries end where their bases do

@@ -82,7 +82,10 @@ fn alone(references: bool, feature: Feature, at: usize) -> Option<(Feature, usiz
 }
 
 /// The one with the lesser place.
-fn earlier(first: Option<(Feature, usize)>, second: Option<(Feature, usize)>) -> Option<(Feature, usize)>
+fn earlier(
+    first: Option<(Feature, usize)>,
+    second: Option<(Feature, usize)>,
+) -> Option<(Feature, usize)>
     ensures { IsEarlier first second result }
 {
     match (first, second) {
@@ -131,7 +134,10 @@ fn in_pattern(references: bool, files: &[Entry], pattern: &Pattern) -> Option<(F
             earlier(here, in_pattern(references, files, operand.get()))
         }
         Pattern::External { passed, at, .. } => {
-            earlier(alone(references, Feature::External, *at), in_passed(references, passed))
+            earlier(
+                alone(references, Feature::External, *at),
+                in_passed(references, passed),
+            )
         }
         Pattern::Grammar(items) => in_items(references, files, items.as_slice()),
     }
@@ -168,9 +174,15 @@ fn in_item(references: bool, files: &[Entry], item: &Item) -> Option<(Feature, u
         Item::Define { pattern, .. } => in_pattern(references, files, pattern),
         Item::Div(items) => in_items(references, files, items.as_slice()),
         Item::Include {
-            passed, inner, at, ..
+            passed,
+            inner,
+            at,
+            ..
         } => {
-            let here = earlier(alone(references, Feature::Include, *at), in_passed(references, passed));
+            let here = earlier(
+                alone(references, Feature::Include, *at),
+                in_passed(references, passed),
+            );
             earlier(here, in_items(references, files, inner.as_slice()))
         }
     }
@@ -224,7 +236,12 @@ fn in_files(references: bool, files: &[Entry]) -> Option<(Feature, usize)>
     let mut found = None;
     let mut rest = files;
     while let Some((first, others)) = rest.split_first() {
-        let here = in_declarations(references, first.base, first.length, first.declarations.as_slice());
+        let here = in_declarations(
+            references,
+            first.base,
+            first.length,
+            first.declarations.as_slice(),
+        );
         found = earlier(found, here);
         rest = others;
     }

@@ -28,7 +28,6 @@ pub struct Full {
 impl Model for Full {
     ghost use Rattle.std.specs.Prelude.{◌≢◌, []};
     ghost use Rattle.schema_tree.specs.Files.{Whole};
-
     ghost use Rattle.schema_tree.specs.contracts.tree.Body as e;
     ghost use Rattle.std.specs.Coded.{codes};
 

@@ -1,4 +1,4 @@
-use Rattle.std.proofs.Common.{◌≡◌, sym, arith, length, map, subst}
+use Rattle.std.proofs.Common.{sym, arith, map, subst}
 use Rattle.rnc_lexer.specs.Views.{placed_of}
 use Rattle.rnc_parser.proofs.Levels.{Walked, start, walk_on, walk_fits}
 use Rattle.rnc_parser.proofs.nesting.too_deep.Goals as goal
@@ -20,4 +20,3 @@ behind-counts-requires-clause-opened c = let h = walk_fits c.in-Some.first.now c
 
 pub behind-counts-requires-clause-closed : goal.behind-counts-requires-clause-closed
 behind-counts-requires-clause-closed c = let h = walk_fits c.in-Some.first.now c.loop-first.invariant c.in-Some.ensures.cases.0 in omega (arith, h.3, c.len-length.ensures, c.len-length.type_inv)
-

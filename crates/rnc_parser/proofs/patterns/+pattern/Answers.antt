@@ -16,7 +16,7 @@ use Rattle.schema_tree.proofs.Folds as fold
 use Rattle.grammar_laws.specs.Grammar.{ReadsLiteral}
 use Rattle.syntax_laws.specs.declared.forms.ItemForm.{ItemForm}
 use Rattle.rnc_parser.proofs.Chains as chain
-use Rattle.rnc_parser.proofs.Chains.{moved, moved_fails}
+use Rattle.rnc_parser.proofs.Chains.{moved}
 use Rattle.rnc_lexer.specs.Views.{symbol_of}
 use Rattle.schema_tree.specs.declared.tree.Item.TheViews as view
 use Rattle.rnc_parser.proofs.patterns.+pattern.Goals as goal

@@ -3,7 +3,7 @@ use Rattle.schema_tree.specs.Trees.{pattern_of}
 use Rattle.rnc_parser.proofs.Steps.{begin, past, at_last}
 use Rattle.rnc_parser.proofs.Shapes as shape
 use Rattle.rnc_parser.proofs.Chains as chain
-use Rattle.rnc_parser.proofs.Chains.{moved, moved_fails}
+use Rattle.rnc_parser.proofs.Chains.{moved}
 use Rattle.rnc_parser.proofs.patterns.postfix.Goals as goal
 
 pub returns-then-eat-clause-parsed : goal.returns-then-eat-clause-parsed

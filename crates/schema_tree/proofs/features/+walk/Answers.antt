@@ -1,7 +1,6 @@
 use Rattle.std.proofs.Common.{map, sym, ap, ◌∙◌, ◌⊎◌, subst}
 use Rattle.grammar_laws.specs.Trees.{patterns_of, items_of}
 use Rattle.schema_tree.specs.Features.{Is, InPassed, InPattern, InPatterns, InItem, InItems}
-use Rattle.schema_tree.specs.Features as by
 use Rattle.schema_tree.specs.Files.{file_of}
 use Rattle.schema_tree.specs.Least.{IsLeast}
 use Rattle.schema_tree.specs.Trees.{pattern_of, item_of, passed_of}

@@ -1,4 +1,4 @@
-use Rattle.std.proofs.Common.{map, ap, ◌∙◌, ◌⊎◌, subst}
+use Rattle.std.proofs.Common.{map, ◌∙◌, ◌⊎◌, subst}
 use Rattle.schema_tree.specs.Features.{InFiles, InBody}
 use Rattle.schema_tree.specs.Files.{file_of}
 use Rattle.schema_tree.specs.Least.{IsLeast}

@@ -17,5 +17,5 @@ loop-first-preserved c =
     let pushed : Lexed = record { token = c.in_ok-token.token; place = c.place-place.result } in
     let here = c.place-place.ensures ∙ ap (λ n. place n c.loop-first.self.rest.now) c.loop-first.invariant.0 in
     let led = leads_pushed c.args.self.now.end c.loop-first.self.end c.token.new.self.end apart _ _ c.args.self.now.rest.now c.loop-first.self.rest.now c.token.new.self.rest.now c.skip-in-Some.new.self.rest.now c.loop-first.lexed.items pushed
-        c.loop-first.invariant.0 c.in_ok-token.ensures.end c.in_ok-push.ensures.items c.loop-first.invariant.1 here c.in_ok-token.ensures.leads c.after-joined.ensures c.skip-in-Some.ensures.skips in
+    c.loop-first.invariant.0 c.in_ok-token.ensures.end c.in_ok-push.ensures.items c.loop-first.invariant.1 here c.in_ok-token.ensures.leads c.after-joined.ensures c.skip-in-Some.ensures.skips in
     (search rules, led, search rules, search rules, within_pushed c.args.self.now.end c.loop-first.lexed.items pushed c.in_ok-push.ensures.items c.loop-first.invariant.4 (omega (arith, here)))
