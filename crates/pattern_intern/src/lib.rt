@@ -1,4 +1,6 @@
 //! Patterns by number: equal numbers exactly for equal patterns, and every number keeps its pattern.
+//!
+//! `Pool::attribute` copies its class and `Pool::value` makes its text before they are looked up, also where they are there.
 #![tactic(auto)]
 
 mod attributes;
