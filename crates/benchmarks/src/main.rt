@@ -1,8 +1,11 @@
 //! Benchmarks that are run by hand: `benchmarks NAME` times one, and without a name they are listed. No figure is asserted.
 #![tactic(auto)]
 
+ghost use Rattle.std.specs.Prelude.{◌<◌, IfOk};
+ghost use Rattle.pattern_intern.specs.Stored.{count};
+
 use name_classes::{Name, NameClass};
-use pattern_intern::Pool;
+use pattern_intern::{PatternId, Pool};
 use rnc_lexer::lex;
 use std::alloc::{AllocError, Global};
 use std::time::Instant;
@@ -61,28 +64,40 @@ fn literals(alloc: Global) -> Result<Literals, AllocError> {
     Ok(literals)
 }
 
-/// Calls of the pool's constructors of patterns, of mixed kinds.
-fn mixed(alloc: Global, pool: &mut Pool) -> io::Result<()> {
-    let class = NameClass::Any(None);
+/// A call of one of the pool's constructors of patterns, by its number.
+fn call(
+    alloc: Global,
+    pool: &mut Pool,
+    number: usize,
+    last: PatternId,
+) -> Result<PatternId, AllocError>
+    requires { last.0 < count pool.old }
+    ensures { IfOk result (λ id. id.0 < count pool.new) }
+{
+    let text = pool.any_text();
+    match number % 8 {
+        0 => pool.reference(number),
+        1 => pool.value(Kind::Token, format!(in alloc; "{number}")?.as_str()),
+        2 => pool.attribute(&NameClass::Any(None), last),
+        3 => pool.one_or_more(last),
+        4 => pool.choice(last, text),
+        5 => pool.group(last, last),
+        6 => pool.interleave(last, text),
+        _ => pool.after(last, text),
+    }
+}
+
+/// Calls of the constructors of mixed kinds.
+fn mixed(alloc: Global, pool: &mut Pool) -> Result<(), AllocError> {
     let mut last = pool.any_text();
     for number in 0..CALLS {
-        let text = pool.any_text();
-        last = match number % 8 {
-            0 => pool.reference(number)?,
-            1 => pool.value(Kind::Token, format!(in alloc; "{number}")?.as_str())?,
-            2 => pool.attribute(&class, last)?,
-            3 => pool.one_or_more(last)?,
-            4 => pool.choice(last, text)?,
-            5 => pool.group(last, last)?,
-            6 => pool.interleave(last, text)?,
-            _ => pool.after(last, text)?,
-        };
+        last = call(alloc, pool, number, last)?;
     }
     Ok(())
 }
 
 /// A choice of literals, made from the greatest down.
-fn choice(alloc: Global, pool: &mut Pool) -> io::Result<()> {
+fn choice(alloc: Global, pool: &mut Pool) -> Result<(), AllocError> {
     let mut others = pool.not_allowed();
     for number in 0..LITERALS {
         let text = format!(in alloc; "{:010}", LITERALS - number)?;
@@ -93,7 +108,7 @@ fn choice(alloc: Global, pool: &mut Pool) -> io::Result<()> {
 }
 
 /// A group of attributes, joined from the left.
-fn group(alloc: Global, pool: &mut Pool) -> io::Result<()> {
+fn group(alloc: Global, pool: &mut Pool) -> Result<(), AllocError> {
     let mut others = pool.empty();
     for number in 0..ATTRIBUTES {
         let local = format!(in alloc; "a{number}")?;
