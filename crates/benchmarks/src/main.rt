@@ -112,8 +112,10 @@ fn group(alloc: Global, pool: &mut Pool) -> Result<(), AllocError> {
     let mut others = pool.empty();
     for number in 0..ATTRIBUTES {
         let local = format!(in alloc; "a{number}")?;
-        let Ok(name) = Name::new(Text::from_string(String::new(alloc)), Text::from_string(local))
-        else {
+        let Ok(name) = Name::new(
+            Text::from_string(String::new(alloc)),
+            Text::from_string(local),
+        ) else {
             return Ok(());
         };
         let text = pool.any_text();

@@ -72,11 +72,7 @@ fn make(pool: &mut Pool, made: &[PatternId], call: Call) -> Result<PatternId, Al
 }
 
 /// What the calls make, one after the other.
-fn make_all(
-    alloc: Global,
-    pool: &mut Pool,
-    calls: &[Call],
-) -> Result<Vec<PatternId>, AllocError> {
+fn make_all(alloc: Global, pool: &mut Pool, calls: &[Call]) -> Result<Vec<PatternId>, AllocError> {
     let mut made = Vec::new(alloc);
     made.push(pool.not_allowed())?;
     made.push(pool.empty())?;
@@ -150,7 +146,16 @@ fn one_number(rt: HostRuntime) -> Result<(), AllocError> {
         Call::After(2, 4),
     ];
     let made = make_all(rt.alloc(), &mut pool, &calls)?;
-    let pairs = [(3, 4), (5, 6), (7, 8), (9, 10), (11, 12), (13, 14), (15, 16), (17, 18)];
+    let pairs = [
+        (3, 4),
+        (5, 6),
+        (7, 8),
+        (9, 10),
+        (11, 12),
+        (13, 14),
+        (15, 16),
+        (17, 18),
+    ];
     assert!(rt; are_one(&pool, made.as_slice(), &pairs));
     assert!(rt; pool.len() == 11);
     Ok(())
