@@ -1,5 +1,5 @@
 -- The first fault of bytes that begin with the lines of events.
-use Rattle.std.proofs.Common.{◌≡◌, ℕ, zero, suc, ◌+◌, ◌<◌, ◌≤◌, ◌⊎◌, inl, inr, true, false, Bool, ◌&&◌, cond, List, [], ◌∷◌, ◌++◌, length, get_or, take, drop, ◌-◌, map, length-drop, Option, Some, None, refl, sym, ◌∙◌, ap, subst, append_assoc, arith, flat_map, length-append}
+use Rattle.std.proofs.Common.{◌≡◌, ℕ, zero, suc, ◌+◌, ◌<◌, ◌≤◌, ◌⊎◌, inl, inr, true, false, Bool, ◌&&◌, List, [], ◌∷◌, ◌++◌, length, get_or, take, drop, ◌-◌, map, length-drop, Option, Some, None, refl, sym, ◌∙◌, ap, subst, append_assoc, arith, flat_map}
 use Rattle.std.specs.Prelude.{bytes_eq}
 use Rattle.std.specs.List.{AllByRecursion}
 use Rattle.std.proofs.lemmas.List.{take_all, length-map, get_or-map}

@@ -1,3 +1,4 @@
+pub mod Options
 pub mod Spelled
 pub mod Named
 pub mod Bodies

@@ -1,13 +1,12 @@
 -- Faults behind the lines of events.
-use Rattle.std.proofs.Common.{◌≡◌, ℕ, suc, ◌⊎◌, inl, inr, true, false, Bool, ◌&&◌, cond, List, [], ◌∷◌, ◌++◌, length, Option, Some, None, refl, sym, ◌∙◌, ap, append_assoc, arith}
+use Rattle.std.proofs.Common.{◌≡◌, ℕ, suc, ◌⊎◌, inl, inr, true, false, ◌&&◌, cond, List, [], ◌∷◌, ◌++◌, length, Option, Some, None, refl, sym, ◌∙◌, ap, append_assoc, arith}
 use Rattle.std.specs.Prelude.{◌==◌, bytes_eq}
-use Rattle.std.specs.List.{AllByRecursion}
 use Rattle.std.proofs.lemmas.Bool.{ne_eqb}
 use Rattle.std.proofs.lemmas.Bool.Decides.{eqb_tells}
 use Rattle.rng_model.specs.Texts.{Text}
 use Rattle.rng_model.specs.Events.{Event}
 use Rattle.line_laws.specs.Walks.{Walk, Before, After}
-use Rattle.line_laws.specs.LineRefusals.{LineFault, BadLine, Unfinished, Trailing, cut_lines, cut_byte, IsNoFeed}
+use Rattle.line_laws.specs.LineRefusals.{LineFault, BadLine, Unfinished, Trailing, cut_lines, cut_byte}
 use Rattle.line_laws.specs.LineWalks.{line_fault, past_fault}
 use Rattle.line_laws.proofs.Cutting.{cut_line, cut_tail}
 use Rattle.line_reader.specs.Spellings.{HasNo}

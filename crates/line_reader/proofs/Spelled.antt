@@ -3,7 +3,6 @@ use Rattle.std.proofs.Common.{◌≡◌, ℕ, ◌+◌, false, List, [], ◌∷�
 use Rattle.std.specs.Prelude.{flat_map}
 use Rattle.std.proofs.lemmas.List.{append_cancel_left, drop-drop}
 use Rattle.std.proofs.lemmas.Grind.{flat_map-append}
-use Rattle.rng_model.specs.Texts as texts
 use Rattle.rng_model.specs.Lines.{text_escape}
 use Rattle.line_laws.proofs.Reading.{IsRead, unescaped, text_read, namespace_read}
 use Rattle.line_reader.specs.declared.escapes.Escapes.{Escapes}

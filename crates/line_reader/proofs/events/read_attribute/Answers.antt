@@ -1,13 +1,10 @@
-use Rattle.std.proofs.Common.{◌≡◌, ℕ, subst, Option, Some, None, List, flat_map}
-use Rattle.std.specs.Prelude.{MatchOption, IsUtf8}
+use Rattle.std.proofs.Common.{◌≡◌, ℕ, List, flat_map}
+use Rattle.std.specs.Prelude.{IsUtf8}
 use Rattle.rng_model.specs.Names.{Name, IsName}
 use Rattle.rng_model.specs.Lines.{name_spelling, text_escape}
+use Rattle.line_reader.proofs.Options.{at_none}
 use Rattle.line_reader.proofs.Bodies.{no_attribute, attribute_parts}
 use Rattle.line_reader.proofs.events.read_attribute.Goals as goal
-
-at_none : {X : Type 0} (o : Option X) (A : Type 0) (B : X → Type 0) → MatchOption o A B → o ≡ None → A
-at_none None A B h e = h
-at_none (Some x) A B h e = absurd (cc)
 
 pub returns-in_default : goal.returns-in_default
 returns-in_default c = no_attribute c.args.bytes.now c.in_default.ensures

@@ -1,19 +1,11 @@
-use Rattle.std.proofs.Common.{◌≡◌, subst, Option, Some, None}
-use Rattle.std.specs.Prelude.{MatchOption}
+use Rattle.std.proofs.Common.{◌≡◌}
 use Rattle.rng_model.specs.Events.{Event}
 use Rattle.line_laws.specs.EventLists.{IsEvent}
 use Rattle.line_reader.specs.Spellings.{event_body}
+use Rattle.line_reader.proofs.Options.{at_none, at_some}
 use Rattle.line_reader.proofs.Bodies.{line_first, no_such_line}
 use Rattle.skeleton.specs.Views.{event_of}
 use Rattle.line_reader.proofs.events.read_line.Goals as goal
-
-at_none : {X : Type 0} (o : Option X) (A : Type 0) (B : X → Type 0) → MatchOption o A B → o ≡ None → A
-at_none None A B h e = h
-at_none (Some x) A B h e = absurd (cc)
-
-at_some : {X : Type 0} (o : Option X) (x : X) (A : Type 0) (B : X → Type 0) → MatchOption o A B → o ≡ Some x → B x
-at_some None x A B h e = absurd (cc)
-at_some (Some y) x A B h e = let s : y ≡ x = cc in subst B s h
 
 pub returns-in-Some-2-clause-value : goal.returns-in-Some-2-clause-value
 returns-in-Some-2-clause-value c =

@@ -1,4 +1,4 @@
-use Rattle.std.proofs.Common.{◌≡◌, [], ◌∙◌, ap, suc, ◌+◌, arith, Some}
+use Rattle.std.proofs.Common.{◌≡◌, ◌∙◌, ap, suc, ◌+◌, arith, Some}
 use Rattle.line_laws.specs.Walks.{After}
 use Rattle.line_laws.specs.LineRefusals.{Trailing}
 use Rattle.line_reader.proofs.Lines.{ended, not_ended, trailing, reads_none, is_none, not_none}

@@ -1,4 +1,4 @@
-use Rattle.std.proofs.Common.{◌≡◌, suc, ◌-◌, ◌+◌, ◌∙◌, ap, sym, Some, false, ◌&&◌, map, get_or, arith}
+use Rattle.std.proofs.Common.{◌≡◌, ◌-◌, ◌+◌, ◌∙◌, ap, sym, Some, false, ◌&&◌, map, get_or, arith}
 use Rattle.std.proofs.lemmas.List.{get_or_default}
 use Rattle.skeleton.specs.Views.{event_of}
 use Rattle.line_reader.specs.Faults.{attribute_fault, is_attribute, stray_fault}

@@ -1,4 +1,4 @@
-use Rattle.std.proofs.Common.{◌≡◌, ◌+◌, ◌++◌, ◌∙◌, ap, sym, refl, arith, drop, flat_map, length, map, [], ◌∷◌}
+use Rattle.std.proofs.Common.{◌≡◌, ◌+◌, ◌++◌, ◌∙◌, ap, sym, refl, arith, drop, flat_map, length}
 use Rattle.std.proofs.lemmas.List.{length-map}
 use Rattle.rng_model.specs.Lines.{event_line, skeleton_text}
 use Rattle.skeleton.specs.Views.{event_of}

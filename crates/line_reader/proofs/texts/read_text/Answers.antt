@@ -1,4 +1,4 @@
-use Rattle.std.proofs.Common.{◌≡◌, ◌<◌, ◌-◌, [], ap, sym, ◌∙◌, arith, length, length-drop, drop, Option, Some, None, flat_map, append-nil, subst, ◌++◌, ℕ}
+use Rattle.std.proofs.Common.{◌≡◌, [], ap, sym, ◌∙◌, arith, length, length-drop, drop, Option, Some, None, flat_map, append-nil, subst, ◌++◌}
 use Rattle.std.specs.Prelude.{IsUtf8, MatchOption}
 use Rattle.rng_model.specs.Lines.{text_escape}
 use Rattle.rng_model.specs.Texts.{Text}
