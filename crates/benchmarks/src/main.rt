@@ -4,6 +4,7 @@
 ghost use Rattle.std.specs.Prelude.{◌<◌, IfOk};
 ghost use Rattle.pattern_intern.specs.Stored.{count};
 
+use event_lines::read_skeleton;
 use name_classes::{Name, NameClass};
 use pattern_intern::{PatternId, Pool};
 use rnc_lexer::lex;
@@ -14,6 +15,9 @@ use text_atoms::{Atoms, Kind, Literals, Text, TextList, alike_atoms};
 
 /// The bytes of a schema that is lexed: the most that a schema may have.
 const SCHEMA: usize = 1_048_576;
+
+/// The bytes that are read as a skeleton: the most that a cursor may have.
+const CURSOR: usize = 2_097_152;
 
 /// The literals whose atoms are made and grouped, of 50 bytes each.
 const LITERALS: u32 = 20_000;
@@ -37,12 +41,24 @@ fn piece_of(name: &str) -> Option<&'static str> {
     }
 }
 
+/// The lines with which a cursor is filled.
+fn lines_of(name: &str) -> Option<&'static str> {
+    match name {
+        "read-elements" => Some("(a\n>\n"),
+        "read-short-lines" => Some(">\n"),
+        "read-texts" => Some("-t\n"),
+        "read-escapes" => Some("-\\\\\\n\\r\n"),
+        "read-namespaces" => Some("({urn:a\\sb}c\n>\n"),
+        _ => None,
+    }
+}
+
 /// A text of so many bytes, the piece again and again.
-fn filled(alloc: Global, piece: &str) -> Result<Vec<u8>, AllocError> {
-    let mut bytes = Vec::with_capacity(alloc, SCHEMA)?;
-    for _ in 0..SCHEMA {
+fn filled(alloc: Global, piece: &str, size: usize) -> Result<Vec<u8>, AllocError> {
+    let mut bytes = Vec::with_capacity(alloc, size)?;
+    for _ in 0..size {
         bytes.extend_from_slice(piece.as_bytes())?;
-        if bytes.len() >= SCHEMA {
+        if bytes.len() >= size {
             break;
         }
     }
@@ -145,12 +161,12 @@ fn main(rt: HostRuntime) -> io::Result<()> {
     let alloc = rt.alloc();
     let Some(name) = env::args(&rt)?.nth(1) else {
         println!(rt;
-            "lex-short-tokens lex-comment lex-elements lex-quotes lex-escaped-names lex-escapes atoms alike pool-mixed pool-choice pool-group"
+            "lex-short-tokens lex-comment lex-elements lex-quotes lex-escaped-names lex-escapes read-elements read-short-lines read-texts read-escapes read-namespaces atoms alike pool-mixed pool-choice pool-group"
         )?;
         return Ok(());
     };
     if let Some(piece) = piece_of(name.as_str()) {
-        let bytes = filled(alloc, piece)?;
+        let bytes = filled(alloc, piece, SCHEMA)?;
         let start = Instant::now(&rt)?;
         let count = match lex(alloc, bytes.as_slice()) {
             Ok(tokens) => tokens.len(),
@@ -158,6 +174,14 @@ fn main(rt: HostRuntime) -> io::Result<()> {
         };
         let micros = start.elapsed(&rt)?.as_micros();
         println!(rt; "{name}: {count} tokens in {micros} microseconds")?;
+        return Ok(());
+    }
+    if let Some(lines) = lines_of(name.as_str()) {
+        let bytes = filled(alloc, lines, CURSOR)?;
+        let start = Instant::now(&rt)?;
+        let is_read = read_skeleton(alloc, bytes.as_slice()).is_ok();
+        let micros = start.elapsed(&rt)?.as_micros();
+        println!(rt; "{name}: skeleton {is_read} in {micros} microseconds")?;
         return Ok(());
     }
     if time_pool(&rt, name.as_str())? {
