@@ -1,14 +1,13 @@
 -- A key that an index set took in was there, or is the last now.
-use Rattle.std.proofs.Common.{◌≡◌, ℕ, ◌+◌, ◌⊎◌, inl, inr, Bool, true, false, not, cond, ◌||◌, List, [], ◌∷◌, ◌++◌, length, slice_get, Some, refl, sym, ◌∙◌, ap, subst, arith, true≢false, if◌then◌else◌}
+use Rattle.std.proofs.Common.{◌≡◌, ℕ, ◌+◌, inl, inr, Bool, true, false, not, cond, ◌||◌, List, [], ◌∷◌, ◌++◌, length, slice_get, Some, refl, sym, ◌∙◌, ap, subst, arith, true≢false, if◌then◌else◌}
 use Rattle.std.specs.List.{list_any, position_or_len}
 use Rattle.std.proofs.lemmas.List.Folds.{list_any_at}
 use Rattle.std.proofs.lemmas.Option.{slice_get_within, get_or_from_slice_get}
 use Rattle.indexmap.specs.IndexSet.{insert_key}
-use Rattle.std.proofs.Common.{◌&&◌, None, Option, nat_eq, take}
+use Rattle.std.proofs.Common.{◌&&◌, None, nat_eq, take}
 use Rattle.std.proofs.Math.Seq.{take-append_seam}
 use Rattle.std.specs.Cmp.Lexicographic.{pointwise, bytes_decides}
 use Rattle.rng_model.specs.Texts.{Text}
-use Rattle.rng_model.specs.Classes.{Class}
 use Rattle.text_atoms.specs.declared.kind.Kind.{Kind as RustKind}
 use Rattle.text_atoms.specs.declared.kind.Kind.TheVariants as rust
 use Rattle.text_atoms.specs.contracts.kind.KindPartialEq.TheImpl as kind_eq
@@ -20,7 +19,7 @@ use Rattle.pattern_intern.specs.declared.id.PatternId.{PatternId}
 use Rattle.pattern_intern.specs.declared.node.Node.{Node}
 use Rattle.pattern_intern.specs.declared.node.Node.TheVariants.{NotAllowed, Empty, AnyText, Ref, Value, DataType, Attribute, OneOrMore, Choice, Group, Interleave, After}
 use Rattle.pattern_intern.specs.contracts.node.NodePartialEq.TheImpl.{eq-value}
-use Rattle.pattern_intern.specs.Interned.{IsTaken, WasThere, IsLast, HadNode, IsNewNode, IsInterned}
+use Rattle.pattern_intern.specs.Interned.{IsTaken, IsInterned}
 
 some_at : {X : Type 0} (p : X → Bool) (xs : List X) (k : ℕ) (x : X) → slice_get xs k ≡ Some x → p x ≡ true → list_any p xs ≡ true
 some_at p xs k x h e = list_any_at p xs k x (slice_get_within xs k x h) (ap p (get_or_from_slice_get xs k x x h) ∙ e)

@@ -1,24 +1,21 @@
 -- What adding a node, a class or a literal does to a pool.
-use Rattle.std.proofs.Common.{◌≡◌, ℕ, zero, suc, ◌+◌, ◌<◌, ◌≤◌, ◌⊎◌, inl, inr, get_or, Option, None, Some, List, [], ◌∷◌, ◌++◌, fold, length, map, slice_get, Result, Ok, Err, IfOk, OnErr, refl, sym, ◌∙◌, ap, arith, length-append}
-use Rattle.std.proofs.lemmas.List.{map-append, length-map}
-use Rattle.std.proofs.lemmas.Option.{slice_get_within, slice_get-get_or}
+use Rattle.std.proofs.Common.{◌≡◌, ℕ, ◌<◌, inl, inr, List, [], ◌∷◌, ◌++◌, Result, Ok, Err, IfOk, OnErr, ap, arith, length-append}
+use Rattle.std.proofs.lemmas.Option.{slice_get_within}
 use Rattle.std.specs.declared.alloc.AllocError.{AllocError}
 use Rattle.rng_model.specs.Texts.{Text}
-use Rattle.rng_model.specs.Classes.{Class, any}
+use Rattle.rng_model.specs.Classes.{Class}
 use Rattle.rng_model.specs.Patterns.{Pattern}
 use Rattle.rng_model.specs.Patterns as pattern
-use Rattle.text_atoms.specs.Kinds.{kind_of}
 use Rattle.pattern_intern.specs.declared.facts.Facts.{Facts}
 use Rattle.pattern_intern.specs.declared.id.PatternId.{PatternId}
 use Rattle.pattern_intern.specs.declared.node.Node.{Node}
-use Rattle.pattern_intern.specs.declared.node.Node.TheVariants.{NotAllowed, Empty, AnyText, Ref, Value, DataType, Attribute, OneOrMore, Choice, Group, Interleave, After}
 use Rattle.pattern_intern.specs.Ordered.{IsOrdered}
 use Rattle.pattern_intern.specs.Schemas.{AreRefsBelow, HasRefsBelow}
-use Rattle.pattern_intern.specs.Stored.{Stored, stored, count, tree_at, class_at, literal_at, AreApart, Extends}
+use Rattle.pattern_intern.specs.Stored.{stored, count, tree_at, Extends}
 use Rattle.pattern_intern.specs.Facts.{IsFacts}
-use Rattle.pattern_intern.specs.Trees.{node_tree, with_node, trees, stored_of, PartsBelow, IsNode, IsPool}
+use Rattle.pattern_intern.specs.Trees.{node_tree, trees, stored_of, PartsBelow, IsPool}
 use Rattle.pattern_intern.specs.Interned.{IsInterned}
-use Rattle.pattern_intern.proofs.Growing.{trees-push, at_new, extends-refl, extends-push, refs-push, with_tree, pool-push, node_tree-extends, parts-extend}
+use Rattle.pattern_intern.proofs.Growing.{trees-push, at_new, extends-refl, extends-push, refs-push, with_tree, pool-push}
 
 -- what adding a node does
 module _ (nodes new : List Node) (facts now : List Facts) (cs : List Class) (ls : List Text) (node : Node) (fact : Facts) (h : IsPool nodes facts (stored_of nodes cs ls)) (below : PartsBelow (count (stored_of nodes cs ls)) (stored_of nodes cs ls) node) (described : IsFacts (node_tree (stored_of nodes cs ls) node) fact) (o : IsOrdered (node_tree (stored_of nodes cs ls) node)) where

@@ -1,5 +1,5 @@
 -- The search for the classes of attributes: its start, the visit of a number, and its end.
-use Rattle.std.proofs.Common.{◌≡◌, ℕ, suc, ◌+◌, ◌<◌, ◌≤◌, ◌⊎◌, inl, inr, ◌↔◌, Bool, true, false, get_or, None, Some, Result, Ok, Err, OnOk, List, [], ◌∷◌, ◌++◌, length, map, replicate, refl, sym, ◌∙◌, ap, subst, arith}
+use Rattle.std.proofs.Common.{◌≡◌, ℕ, suc, ◌+◌, ◌<◌, ◌≤◌, ◌⊎◌, inl, inr, ◌↔◌, Bool, true, false, get_or, Result, Ok, Err, OnOk, List, [], ◌∷◌, ◌++◌, length, map, replicate, sym, ◌∙◌, ap, subst, arith}
 use Rattle.std.specs.List.{Contains}
 use Rattle.std.specs.List.{AllByRecursion}
 use Rattle.std.proofs.lemmas.List.{length-replicate}
@@ -11,13 +11,13 @@ use Rattle.rng_model.specs.Inside.{IsAttributeOf}
 use Rattle.rng_model.specs.Universe.{IsAttributeClass}
 use Rattle.pattern_intern.specs.declared.id.ClassId.{ClassId}
 use Rattle.pattern_intern.specs.declared.id.PatternId.{PatternId}
-use Rattle.pattern_intern.specs.Marks.{parts_of, with_marks, InMarked}
+use Rattle.pattern_intern.specs.Marks.{parts_of, with_marks}
 use Rattle.pattern_intern.specs.Attributes.{HasClass, AreClasses, IsClassSearch}
 use Rattle.pattern_intern.specs.Schemas.{Entry, AreBelow, schema_of}
 use Rattle.pattern_intern.specs.Stored.{Stored, count, class_at, tree_at}
-use Rattle.pattern_intern.specs.Trees.{node_tree, PartsBelow, IsNode}
+use Rattle.pattern_intern.specs.Trees.{node_tree, IsNode}
 use Rattle.pattern_intern.specs.declared.node.Node.{Node}
-use Rattle.pattern_intern.specs.declared.node.Node.TheVariants.{NotAllowed, Empty, AnyText, Ref, Value, DataType, Attribute, OneOrMore, Choice, Group, Interleave, After}
+use Rattle.pattern_intern.specs.declared.node.Node.TheVariants.{Attribute}
 use Rattle.pattern_intern.proofs.Marking.{nothing_in, unmarked, visited, length-marks}
 use Rattle.pattern_intern.proofs.Searching.{moved, second, contents_in, no_more, then, none_there, in_start, no_member}
 

@@ -3,7 +3,6 @@ use Rattle.std.proofs.Common.{◌≡◌, ℕ, zero, suc, ◌+◌, ◌<◌, ◌�
 use Rattle.std.proofs.Math.Seq.{take-append_seam}
 use Rattle.std.proofs.lemmas.List.{take-append-drop, get_or-take, length-take-le}
 use Rattle.std.proofs.lemmas.List.Sums.{fold-append}
-use Rattle.std.proofs.lemmas.Option.{slice_get_within}
 use Rattle.rng_model.specs.Texts.{Text}
 use Rattle.rng_model.specs.Classes.{Class}
 use Rattle.rng_model.specs.Patterns.{Pattern}
@@ -11,8 +10,8 @@ use Rattle.rng_model.specs.Patterns as pattern
 use Rattle.pattern_intern.specs.declared.facts.Facts.{Facts}
 use Rattle.pattern_intern.specs.declared.node.Node.{Node}
 use Rattle.pattern_intern.specs.declared.node.Node.TheVariants.{NotAllowed, Empty, AnyText}
-use Rattle.pattern_intern.specs.Stored.{Stored, stored, count, tree_at, AreApart, Extends}
-use Rattle.pattern_intern.specs.Trees.{node_tree, with_node, trees, stored_of, PartsBelow, IsNode, IsPool}
+use Rattle.pattern_intern.specs.Stored.{Stored, stored, count, tree_at, Extends}
+use Rattle.pattern_intern.specs.Trees.{node_tree, with_node, trees, stored_of, IsNode, IsPool}
 use Rattle.pattern_intern.proofs.Growing.{node_tree-extends, parts-extend}
 
 slice_get-take : {X : Type 0} (xs : List X) (n k : ℕ) (x : X) → slice_get (take n xs) k ≡ Some x → (k < n) × (slice_get xs k ≡ Some x)

@@ -1,5 +1,5 @@
 -- A pool that gets one more node, class or literal.
-use Rattle.std.proofs.Common.{◌≡◌, ℕ, zero, suc, ◌+◌, ◌<◌, ◌≤◌, ◌==◌, ◌⊎◌, inl, inr, Bool, false, get_or, Option, None, Some, List, [], ◌∷◌, ◌++◌, fold, length, slice_get, refl, sym, ◌∙◌, ap, arith, length-append, max}
+use Rattle.std.proofs.Common.{◌≡◌, ℕ, zero, suc, ◌+◌, ◌<◌, ◌≤◌, ◌==◌, ◌⊎◌, inl, inr, false, get_or, None, Some, List, [], ◌∷◌, ◌++◌, length, slice_get, refl, sym, ◌∙◌, ap, arith, length-append, max}
 use Rattle.std.proofs.lemmas.List.Sums.{fold-append}
 use Rattle.std.proofs.lemmas.List.{get_or_append_left, get_or_at}
 use Rattle.std.proofs.lemmas.Option.{slice_get_within, slice_get-get_or}
@@ -20,9 +20,9 @@ use Rattle.pattern_intern.specs.declared.node.Node.TheVariants.{NotAllowed, Empt
 use Rattle.pattern_intern.specs.Ordered.{IsOrdered}
 use Rattle.pattern_intern.specs.Schemas.{AreRefsBelow, HasRefsBelow}
 use Rattle.rng_model.specs.Depths.{in_choice, depth}
-use Rattle.pattern_intern.specs.Stored.{Stored, stored, count, tree_at, class_at, literal_at, AreApart, Extends}
+use Rattle.pattern_intern.specs.Stored.{Stored, stored, count, tree_at, AreApart, Extends}
 use Rattle.pattern_intern.specs.Facts.{IsFacts}
-use Rattle.pattern_intern.specs.Trees.{node_tree, with_node, trees, stored_of, PartsBelow, IsNode, IsPool}
+use Rattle.pattern_intern.specs.Trees.{node_tree, with_node, trees, PartsBelow, IsNode, IsPool}
 
 -- one node more is its tree more
 pub trees-push : (cs : List Class) (ls : List Text) (nodes : List Node) (node : Node) → trees cs ls (nodes ++ node ∷ []) ≡ with_node cs ls (trees cs ls nodes) node

@@ -1,5 +1,5 @@
 -- A schema keeps its start and definitions while its pool grows.
-use Rattle.std.proofs.Common.{◌≡◌, ℕ, zero, suc, ◌<◌, ◌≤◌, ◌⊎◌, inl, inr, Some, List, [], ◌∷◌, ◌++◌, length, map, slice_get, refl, sym, ap, subst, arith}
+use Rattle.std.proofs.Common.{◌≡◌, ℕ, zero, suc, ◌<◌, ◌⊎◌, inl, inr, Some, List, [], ◌∷◌, ◌++◌, length, map, slice_get, refl, sym, subst, arith}
 use Rattle.std.proofs.lemmas.List.{map-append}
 use Rattle.name_classes.specs.declared.class.NameClass.{NameClass}
 use Rattle.name_classes.specs.Views.{class_of}
@@ -8,7 +8,7 @@ use Rattle.rng_model.specs.Patterns.{Schema, Definition, IsSimpleForm, HasNoAfte
 use Rattle.rng_model.specs.Patterns as pattern
 use Rattle.pattern_intern.proofs.Growing.{slice_get-push}
 use Rattle.pattern_intern.specs.Schemas.{Entry, AreBelow, HasRefsBelow, AreRefsBelow, AreWithin, IsSchema, definition_of, schema_of}
-use Rattle.pattern_intern.specs.Stored.{Stored, stored, count, tree_at, Extends}
+use Rattle.pattern_intern.specs.Stored.{Stored, stored, tree_at, Extends}
 
 definitions_kept : (s t : Stored) → Extends s t → (xs : List Entry) → AreWithin s xs → map (definition_of t) xs ≡ map (definition_of s) xs
 definitions_kept s t x [] w = refl

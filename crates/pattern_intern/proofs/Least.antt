@@ -1,7 +1,6 @@
 -- The least members of two patterns, taken one by one, and joined again from the last on.
-use Rattle.std.proofs.Common.{◌≡◌, ℕ, zero, suc, ◌+◌, ◌-◌, ◌<◌, ◌≤◌, ◌⊎◌, inl, inr, get_or, Option, None, Some, IfNone, List, [], ◌∷◌, ◌++◌, length, map, take, slice_index_or, refl, sym, ◌∙◌, ap, subst, arith, append_assoc, append-nil, length-append}
+use Rattle.std.proofs.Common.{◌≡◌, ℕ, ◌<◌, ◌⊎◌, inl, inr, List, [], ◌∷◌, ◌++◌, length, refl, sym, ◌∙◌, ap, subst, arith}
 use Rattle.std.specs.List.{AllByRecursion}
-use Rattle.std.proofs.lemmas.List.{map-append}
 use Rattle.std.specs.declared.cmp.Ordering.TheVariants.{Less, Equal, Greater}
 use Rattle.rng_model.specs.Patterns.{Pattern, not_allowed, pattern_cmp}
 use Rattle.rng_model.specs.Constructors.{members, of_members, choice_of}
@@ -9,7 +8,7 @@ use Rattle.pattern_intern.specs.declared.id.PatternId.{PatternId}
 use Rattle.pattern_intern.specs.Ordered.{IsMember, IsBelow, Ascends, IsOrdered, IsSplit}
 use Rattle.pattern_intern.specs.Stored.{Stored, count, tree_at, Extends}
 use Rattle.pattern_intern.specs.Schemas.{AreRefsBelow}
-use Rattle.pattern_intern.specs.Members.{AreIn, AreMembers, IsLeast, IsMerged, trees_at, member_count}
+use Rattle.pattern_intern.specs.Members.{AreIn, AreMembers, IsLeast, IsMerged, trees_at}
 use Rattle.pattern_intern.proofs.Merging.{merges, nothings, ordered, members_of}
 
 listed : (x f r : Pattern) → x ≡ of_members (f ∷ members r) → IsMember f → IsOrdered r → members x ≡ f ∷ members r

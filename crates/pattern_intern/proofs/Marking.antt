@@ -1,20 +1,16 @@
 -- Marked patterns, and what stands in them.
-use Rattle.std.proofs.Common.{◌≡◌, ◌≢◌, ℕ, zero, suc, ◌+◌, ◌<◌, ◌≤◌, ◌⊎◌, inl, inr, ◌↔◌, Bool, true, false, get_or, None, Some, List, [], ◌∷◌, ◌++◌, fold, length, map, replicate, slice_get, refl, sym, ◌∙◌, ap, subst, arith}
+use Rattle.std.proofs.Common.{◌≡◌, ◌≢◌, ℕ, zero, suc, ◌<◌, ◌≤◌, ◌⊎◌, inl, inr, ◌↔◌, Bool, true, false, get_or, None, Some, List, [], ◌∷◌, length, refl, sym, ◌∙◌, ap, subst, arith}
 use Rattle.std.specs.List.{AllByRecursion}
-use Rattle.std.proofs.lemmas.List.{get_or-set_same, get_or-set_other, get_or-replicate}
-use Rattle.std.proofs.lemmas.Option.{slice_get_within, slice_get-get_or}
-use Rattle.std.proofs.Math.ListN.{set, length-set}
-use Rattle.std.specs.List.{Contains}
+use Rattle.std.proofs.lemmas.List.{get_or-set_same, get_or-set_other}
+use Rattle.std.proofs.Math.ListN.{length-set}
 use Rattle.rng_model.specs.Texts.{Text}
 use Rattle.rng_model.specs.Kinds.{Kind}
 use Rattle.rng_model.specs.Patterns.{Pattern, Schema, Definition, Defines}
 use Rattle.rng_model.specs.Patterns as pattern
-use Rattle.rng_model.specs.Inside.{Within, InSchema, InAttribute}
-use Rattle.rng_model.specs.Atoms.{Literals}
-use Rattle.rng_model.specs.Universe.{IsLiteral, IsOfKind, AreLiterals}
-use Rattle.pattern_intern.specs.Marks.{parts_of, content_of, with_mark, with_marks, InMarked, IsEmpty, IsValue, IsSearch}
-use Rattle.pattern_intern.specs.Schemas.{Entry, AreBelow, definition_of, schema_of}
-use Rattle.pattern_intern.specs.Stored.{Stored, count, tree_at}
+use Rattle.rng_model.specs.Inside.{Within, InAttribute}
+use Rattle.rng_model.specs.Universe.{IsOfKind}
+use Rattle.pattern_intern.specs.Marks.{parts_of, content_of, with_mark, with_marks, InMarked, IsEmpty, IsValue}
+use Rattle.pattern_intern.specs.Stored.{Stored, tree_at}
 use Rattle.pattern_intern.specs.Trees.{node_tree, PartsBelow, IsNode}
 use Rattle.pattern_intern.specs.declared.node.Node.{Node}
 use Rattle.pattern_intern.specs.declared.node.Node.TheVariants.{NotAllowed, Empty, AnyText, Ref, Value, DataType, Attribute, OneOrMore, Choice, Group, Interleave, After}

@@ -14,11 +14,11 @@ use Rattle.rng_model.specs.Patterns.{Pattern, Schema, Definition, Defines}
 use Rattle.rng_model.specs.Patterns as pattern
 use Rattle.rng_model.specs.Inside.{Within, InSchema, InAttribute}
 use Rattle.rng_model.specs.Atoms.{Literals}
-use Rattle.rng_model.specs.Universe.{IsLiteral, IsOfKind, AreLiterals}
+use Rattle.rng_model.specs.Universe.{IsOfKind, AreLiterals}
 use Rattle.pattern_intern.specs.Marks.{parts_of, content_of, with_mark, with_marks, InMarked, IsEmpty, IsValue, IsSearch}
 use Rattle.pattern_intern.specs.Schemas.{Entry, AreBelow, entry_at, definition_of, schema_of}
 use Rattle.pattern_intern.specs.Stored.{Stored, count, tree_at}
-use Rattle.pattern_intern.specs.Trees.{node_tree, PartsBelow, IsNode}
+use Rattle.pattern_intern.specs.Trees.{node_tree, IsNode}
 use Rattle.pattern_intern.specs.declared.node.Node.{Node}
 use Rattle.pattern_intern.specs.declared.node.Node.TheVariants.{NotAllowed, Empty, AnyText, Ref, Value, DataType, Attribute, OneOrMore, Choice, Group, Interleave, After}
 use Rattle.pattern_intern.proofs.Marking.{InSome, nothing_in, unmarked, visited, more_marks, length-marks, content_small, value_no, kind_no, empty_no, attribute_no}

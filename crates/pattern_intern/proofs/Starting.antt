@@ -1,5 +1,5 @@
 -- A pool of three patterns.
-use Rattle.std.proofs.Common.{◌≡◌, ℕ, zero, suc, ◌<◌, ◌≤◌, inl, inr, Bool, true, false, Option, None, Some, List, [], ◌∷◌, ◌++◌, length, slice_get, refl, subst, ◌∙◌, ap, arith}
+use Rattle.std.proofs.Common.{◌≡◌, ℕ, zero, suc, ◌<◌, ◌≤◌, inl, inr, Bool, true, false, Option, None, Some, List, [], ◌∷◌, ◌++◌, slice_get, refl, subst, ◌∙◌, ap, arith}
 use Rattle.std.proofs.lemmas.Option.{slice_get_within}
 use Rattle.rng_model.specs.Texts.{Text}
 use Rattle.rng_model.specs.Classes.{Class}
@@ -12,7 +12,7 @@ use Rattle.pattern_intern.specs.declared.node.Node.TheVariants.{NotAllowed, Empt
 use Rattle.pattern_intern.specs.Ordered.{IsOrdered}
 use Rattle.rng_model.specs.Depths.{depth}
 use Rattle.pattern_intern.specs.Interned.{IsInterned}
-use Rattle.pattern_intern.specs.Stored.{Stored, count, tree_at, AreApart}
+use Rattle.pattern_intern.specs.Stored.{Stored, count, tree_at}
 use Rattle.pattern_intern.specs.Facts.{IsFacts}
 use Rattle.pattern_intern.specs.Trees.{node_tree, stored_of, IsNode, IsPool}
 use Rattle.pattern_intern.proofs.Growing.{other}

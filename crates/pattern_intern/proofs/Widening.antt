@@ -1,5 +1,5 @@
 -- A pool that gets one more class or literal, and then a node with it.
-use Rattle.std.proofs.Common.{◌≡◌, ℕ, zero, suc, ◌+◌, ◌<◌, ◌≤◌, ◌⊎◌, inl, inr, get_or, Option, None, Some, List, [], ◌∷◌, ◌++◌, fold, length, map, take, slice_get, option_map, refl, sym, ◌∙◌, ap, subst, arith, length-append}
+use Rattle.std.proofs.Common.{◌≡◌, ℕ, suc, ◌<◌, ◌≤◌, inl, inr, get_or, None, Some, List, [], ◌∷◌, ◌++◌, fold, length, map, take, slice_get, option_map, refl, sym, ◌∙◌, ap, arith, length-append}
 use Rattle.std.proofs.Math.Seq.{take-append_seam}
 use Rattle.std.proofs.lemmas.List.{map-append, length-map}
 use Rattle.std.proofs.lemmas.Option.{slice_get_within, slice_get-get_or, slice_get-map, get_or_from_slice_get}
@@ -11,8 +11,8 @@ use Rattle.text_atoms.specs.Kinds.{kind_of}
 use Rattle.pattern_intern.specs.declared.facts.Facts.{Facts}
 use Rattle.pattern_intern.specs.declared.node.Node.{Node}
 use Rattle.pattern_intern.specs.declared.node.Node.TheVariants.{NotAllowed, Empty, AnyText, Ref, Value, DataType, Attribute, OneOrMore, Choice, Group, Interleave, After}
-use Rattle.pattern_intern.specs.Stored.{Stored, stored, count, tree_at, class_at, literal_at, AreApart, Extends}
-use Rattle.pattern_intern.specs.Trees.{node_tree, with_node, trees, stored_of, PartsBelow, IsNode, IsPool}
+use Rattle.pattern_intern.specs.Stored.{stored, tree_at, AreApart, Extends}
+use Rattle.pattern_intern.specs.Trees.{node_tree, with_node, trees, stored_of, PartsBelow, IsPool}
 use Rattle.pattern_intern.specs.Interned.{IsTaken}
 use Rattle.pattern_intern.proofs.Growing.{at_old, at_new, apart-push, node_tree-extends, parts-extend}
 

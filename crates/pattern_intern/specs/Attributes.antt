@@ -1,7 +1,7 @@
 -- The search for the name classes of attributes.
 use Rattle.std.specs.Prelude.{◌≡◌, ℕ, ◌<◌, ◌⊎◌, ◌↔◌, Bool, List, length, Contains}
 use Rattle.rng_model.specs.Classes.{Class}
-use Rattle.rng_model.specs.Patterns.{Pattern, Schema}
+use Rattle.rng_model.specs.Patterns.{Schema}
 use Rattle.rng_model.specs.Inside.{IsAttributeOf}
 use Rattle.rng_model.specs.Universe.{IsAttributeClass}
 use Rattle.pattern_intern.specs.declared.id.ClassId.{ClassId}

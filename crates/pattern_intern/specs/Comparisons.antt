@@ -1,9 +1,9 @@
 -- The order of patterns part by part.
-use Rattle.std.specs.Prelude.{◌≡◌, ℕ, ◌+◌, ◌<◌, ◌≤◌, List, ◌++◌, ⊤}
+use Rattle.std.specs.Prelude.{⊤}
 use Rattle.std.specs.declared.cmp.Ordering.{Ordering}
 use Rattle.std.specs.Ordering.{nat_cmp}
 use Rattle.std.specs.Cmp.Lexicographic.{slice_cmp}
-use Rattle.rng_model.specs.Patterns.{Pattern, choice, pattern_keys, pattern_cmp}
+use Rattle.rng_model.specs.Patterns.{Pattern, choice, pattern_keys}
 
 -- the order as the last members of choices
 abbrev pub tail_cmp : Pattern → Pattern → Ordering

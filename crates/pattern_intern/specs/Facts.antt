@@ -1,5 +1,5 @@
 -- What is kept beside each node, and the types of src/ as the model's.
-use Rattle.std.specs.Prelude.{◌≡◌, Option, option_map}
+use Rattle.std.specs.Prelude.{◌≡◌, option_map}
 use Rattle.rng_model.specs.Patterns.{Pattern}
 use Rattle.rng_model.specs.Matching.{nullable}
 use Rattle.rng_model.specs.Restrictions.{ContentType, empty_type, complex, simple, content_type}

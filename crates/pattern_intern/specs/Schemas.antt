@@ -1,6 +1,6 @@
 -- What contracts see of a schema: its start and element definitions as patterns, and the pool of their numbers.
 use Rattle.std.specs.Prelude.{◌≡◌, ℕ, ◌<◌, List, length, map, slice_get, slice_index_or, Some, ⊤, refl}
-use Rattle.std.specs.Coded.{Coded, code_by, coded_ℕ, coded_list, coded×}
+use Rattle.std.specs.Coded.{Coded, code_by, coded_ℕ, coded×}
 use Rattle.rng_model.specs.Classes.{Class, any}
 use Rattle.rng_model.specs.Patterns.{Pattern, Schema, Definition, IsSimpleForm, not_allowed, ref, data_except, attribute, one_or_more, choice, group, interleave, after}
 use Rattle.rng_model.specs.CodedPatterns.{class_code, schema_code}

@@ -1,4 +1,4 @@
-use Rattle.std.proofs.Common.{◌≡◌, ◌<◌, ◌∙◌, sym, arith, true, false, get_or}
+use Rattle.std.proofs.Common.{◌≡◌, ◌∙◌, sym, arith, true, false, get_or}
 use Rattle.pattern_intern.specs.Marks.{parts_of}
 use Rattle.pattern_intern.proofs.Marking.{length-marks}
 use Rattle.std.proofs.lemmas.List.{get_or_read}

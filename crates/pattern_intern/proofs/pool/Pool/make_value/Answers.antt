@@ -1,8 +1,4 @@
-use Rattle.std.proofs.Common.{◌<◌, subst, sym, refl}
-use Rattle.rng_model.specs.Patterns.{attribute}
-use Rattle.name_classes.specs.Views.{class_of}
-use Rattle.pattern_intern.specs.Facts.{IsFacts}
-use Rattle.pattern_intern.specs.Stored.{count, tree_at}
+use Rattle.std.proofs.Common.{refl}
 use Rattle.pattern_intern.proofs.Taking.{pool_after, within_after, made_after, kept_after, refs_after, after_refusal, value_made}
 use Rattle.pattern_intern.proofs.pool.Pool.make_value.Goals as goal
 
