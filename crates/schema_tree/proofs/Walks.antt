@@ -7,9 +7,11 @@ use Rattle.std.proofs.lemmas.Bool.{and_from, true≢false}
 use Rattle.grammar_laws.specs.Trees.{Declaration, namespace_prefix, default_namespace, datatypes}
 use Rattle.schema_tree.specs.declared.features.Feature.{Feature}
 use Rattle.schema_tree.specs.declared.files.Entry.{Entry}
-use Rattle.schema_tree.specs.Features.{InFiles, Binds, IsForeign, is_foreign, binds_foreign}
+use Rattle.schema_tree.specs.Features.{InFiles, InDeclarations, Binds, IsForeign, is_foreign, binds_foreign}
 use Rattle.schema_tree.specs.Files.{file_of, AreBased}
-use Rattle.schema_tree.proofs.Leasts.{Gathered}
+use Rattle.schema_tree.specs.Trees.{declaration_of}
+use Rattle.schema_tree.specs.Least.{IsLeast, IsEarlier}
+use Rattle.schema_tree.proofs.Leasts.{Gathered, gather_more}
 use Rattle.schema_tree.proofs.Places.{based_places}
 
 -- some of the files are passed
@@ -32,6 +34,13 @@ files_fit {w = w} {found = found} all {rest = rest} {others = others} first here
     go (n, m, less, ((at, within), hs), g) =
         let r = based_places others (n + suc first.length) m hs in
         omega (arith, less, at, r)
+
+-- the features of one more file
+pub files_on : (w : Bool) (all : List Entry) (first : Entry) (others : List Entry) (found here next : Option (Feature × ℕ)) → FilesAt w all (first ∷ others) found →
+    IsLeast w (InDeclarations first.base (map declaration_of first.declarations)) here → IsEarlier found here next → FilesAt w all others next
+files_on w all first others found here next (n, m, less, ((at, within), hs), g) h e =
+    let least : IsLeast w (InDeclarations n (map declaration_of first.declarations)) here = rw at at h in
+    (n + suc first.length, m, less, hs, gather_more w (InFiles 0 (map file_of all)) (InDeclarations n (map declaration_of first.declarations)) (InFiles (n + suc first.length) (map file_of others)) found here next g least e)
 
 -- a declaration that binds nothing of the kind is passed
 same_text : (q p : Text) → q ≡ p → bytes_eq q p ≡ true

@@ -1,7 +1,7 @@
 // The features that aren't taken.
-ghost use Rattle.std.specs.Prelude.{◌≡◌, ◌↔◌, ◌⊎◌, ◌+◌, ◌<◌, ◌^◌, ℕ, true, false, map, Some, option_map, IsTrue};
+ghost use Rattle.std.specs.Prelude.{◌≡◌, ◌↔◌, ◌⊎◌, ◌+◌, ◌<◌, ◌≤◌, ◌^◌, ℕ, true, false, map, Some, option_map, IsTrue};
 ghost use Rattle.schema_tree.specs.Features.{HasFeature, HasReference, InPattern, InPatterns, InItem, InItems, InBody, InType, InParameters, InPassed, InUri, InDeclaration, InDeclarations, InFiles, Is};
-ghost use Rattle.schema_tree.specs.Least.{Wants, IsLeast, IsEarlier, IsFirst};
+ghost use Rattle.schema_tree.specs.Least.{Wants, feature_rank, feature_order, IsLeast, IsEarlier, IsFirst};
 ghost use Rattle.schema_tree.specs.Files.{full_of, file_of, IsUriWithin, IsWithin, AreWithin, AreFitting};
 ghost use Rattle.schema_tree.specs.Trees.{pattern_of, item_of, body_of, declaration_of, uri_of, type_of, parameter_of, passed_of};
 ghost use Rattle.grammar_laws.specs.Trees.{patterns_of, items_of};
@@ -29,7 +29,8 @@ pub enum Feature {
     Parameter,
 }
 
-/// The feature with the least place, or None where the schema has none.
+/// The feature with the least place, or None where the schema has none. Of several at one place, which no tokens give, the first in the
+/// order of features comes.
 pub fn refused_feature(full: &Full) -> Option<(Feature, usize)>
     ensures { IsLeast false (HasFeature (full_of full.now)) result }
 {
@@ -81,7 +82,29 @@ fn alone(references: bool, feature: Feature, at: usize) -> Option<(Feature, usiz
     }
 }
 
-/// The one with the lesser place.
+/// The place of a feature in the order of features.
+fn rank(feature: Feature) -> usize
+    ensures { result ≡ feature_rank feature }
+{
+    match feature {
+        Feature::Include => 0,
+        Feature::External => 1,
+        Feature::Inherit => 2,
+        Feature::List => 3,
+        Feature::ForeignType => 4,
+        Feature::Parameter => 5,
+    }
+}
+
+/// Whether the first has the lesser place, or at one place isn't behind the second in the order of features.
+#[tactic(auto, unfolding(crate::specs::Least::feature_order))]
+fn comes_first(first: (Feature, usize), second: (Feature, usize)) -> bool
+    ensures { IsTrue result ↔ (feature_order first.0 first.1 ≤ feature_order second.0 second.1) }
+{
+    first.1 < second.1 || (first.1 == second.1 && rank(first.0) <= rank(second.0))
+}
+
+/// The earlier of the two.
 fn earlier(
     first: Option<(Feature, usize)>,
     second: Option<(Feature, usize)>,
@@ -91,7 +114,11 @@ fn earlier(
     match (first, second) {
         (None, found) => found,
         (found, None) => found,
-        (Some(first), Some(second)) => Some(if first.1 <= second.1 { first } else { second }),
+        (Some(first), Some(second)) => Some(if comes_first(first, second) {
+            first
+        } else {
+            second
+        }),
     }
 }
 
