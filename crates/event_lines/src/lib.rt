@@ -1,14 +1,19 @@
-//! Skeletons as text: one line for each event, and an empty line. Reading such a text is passed on from `line_reader`.
+//! Skeletons, and codes of events, as text: one line for each event, and an empty line. Reading such a text is passed on from `line_reader`.
 #![tactic(auto)]
 
+mod codes;
+mod counted;
 mod escapes;
 mod line_buffer;
 mod lines;
+mod measuring;
 mod pieces;
 mod writing;
 
+pub use counted::Measure;
 pub use line_reader::{LineFault, read_skeleton};
-pub use writing::{WriteFault, write_name_line, write_skeleton, write_text_line};
+pub use measuring::measure;
+pub use writing::{WriteFault, write_codes, write_name_line, write_skeleton, write_text_line};
 
 #[cfg(test)]
 mod tests;

@@ -65,7 +65,7 @@ pub(crate) fn put_text_line<O: Sink>(
 }
 
 /// Puts the line of an attribute.
-fn put_attribute_line<O: Sink>(
+pub(crate) fn put_attribute_line<O: Sink>(
     buffer: &mut LineBuffer,
     sink: &mut O,
     name: &Name,

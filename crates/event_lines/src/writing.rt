@@ -1,17 +1,21 @@
 // The text of a skeleton, and single lines.
-ghost use Rattle.std.specs.Prelude.{◌≡◌, ◌<◌, is_some, OnOk, OnErr};
+ghost use Rattle.std.specs.Prelude.{◌≡◌, ◌<◌, is_some, List, OnOk, OnErr};
 ghost use Rattle.std.specs.Io.KnownBytes.{Appends};
 ghost use Rattle.outside.specs.Counts.{HasCause};
 ghost use Rattle.outside.specs.Devices.{AppendsFront};
+ghost use Rattle.rng_model.specs.Events.{Event};
 ghost use Rattle.rng_model.specs.Lines.{skeleton_text};
 ghost use Rattle.event_lines.specs.Parts.{name_line, text_line};
+ghost use Rattle.event_lines.specs.Coded.{AreInRange, AreCodesOf, lists_of, events_text};
 
+use crate::codes::put_codes;
 use crate::line_buffer::LineBuffer;
 use crate::lines::{put_events, put_name_line, put_text_line};
 use name_classes::Name;
+use name_universe::Universe;
 use outside::{Failed, Sink};
-use skeleton::Skeleton;
-use text_atoms::Text;
+use skeleton::{Code, Skeleton};
+use text_atoms::{Atoms, Text};
 use thiserror::Error;
 
 /// A sink failed, and its count of faults rose.
@@ -29,6 +33,29 @@ pub fn write_skeleton<O: Sink>(skeleton: &Skeleton, sink: &mut O) -> Result<(), 
 {
     let mut buffer = LineBuffer::new();
     match put_events(&mut buffer, sink, skeleton.events()) {
+        Ok(()) => Ok(()),
+        Err(Failed) => Err(WriteFault),
+    }
+}
+
+/// Appends the lines of the events that the codes are by position in the lists of names and atoms, and an empty line: where the events
+/// are a skeleton's, this is its text. It is handed over as by `write_skeleton`, and no memory is taken.
+pub fn write_codes<O: Sink>(
+    codes: &[Code],
+    universe: &Universe,
+    atoms: &Atoms,
+    sink: &mut O,
+) -> Result<(), WriteFault>
+    requires { AreInRange (lists_of universe.now atoms.now) codes.now }
+    ensures ok { (es : List Event) → AreCodesOf (lists_of universe.now atoms.now) es codes.now →
+        OnOk result (Appends (O.taken sink.old) (O.taken sink.new) (events_text es)) }
+    ensures err { (es : List Event) → AreCodesOf (lists_of universe.now atoms.now) es codes.now →
+        OnErr result (AppendsFront (O.taken sink.old) (O.taken sink.new) (events_text es)) }
+    ensures told { is_some (O.taken sink.new) ≡ is_some (O.taken sink.old) }
+    ensures cause { HasCause (O.faults sink.old) (O.faults sink.new) result }
+{
+    let mut buffer = LineBuffer::new();
+    match put_codes(&mut buffer, sink, codes, universe, atoms) {
         Ok(()) => Ok(()),
         Err(Failed) => Err(WriteFault),
     }
