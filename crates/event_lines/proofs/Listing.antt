@@ -2,17 +2,22 @@
 use Rattle.std.proofs.Common.{◌≡◌, ℕ, ◌+◌, ◌<◌, ◌≤◌, List, [], ◌∷◌, ◌++◌, length, take, drop, get_or, flat_map, append-nil, ap, sym, subst, ◌∙◌}
 use Rattle.std.proofs.lemmas.List.{take-append-drop, take_more, take_all}
 use Rattle.std.proofs.lemmas.Grind.{flat_map-append}
+use Rattle.std.proofs.lemmas.Option.{get_or_from_slice_get, slice_get-get_or}
 use Rattle.event_lines.specs.Pieces.{Progress, Sends, Fails}
 use Rattle.event_lines.proofs.Sending.{sends_then, fails_then, fails_early}
 
 -- one item more
-one_more : {A : Type 0} (f : A → List ℕ) (n : ℕ) (es : List A) (e : A) → n < length es → e ≡ get_or es n e →
+pub one_more : {A : Type 0} (f : A → List ℕ) (n : ℕ) (es : List A) (e : A) → n < length es → e ≡ get_or es n e →
     flat_map f (take n es) ++ f e ≡ flat_map f (take (n + 1) es)
 one_more f n es e below is =
     ap (λ q. flat_map f (take n es) ++ q) (sym (append-nil (f e)))
     ∙ ap (λ x. flat_map f (take n es) ++ flat_map f (x ∷ [])) is
     ∙ sym (flat_map-append f (take n es) (get_or es n e ∷ []))
     ∙ ap (flat_map f) (sym (take_more es n e below))
+
+-- what is read with one default is read with another
+pub item_is : {A : Type 0} (n : ℕ) (es : List A) (d : A) → n < length es → get_or es n d ≡ get_or es n (get_or es n d)
+item_is n es d below = sym (get_or_from_slice_get es n (get_or es n d) (get_or es n d) (slice_get-get_or es n d below))
 
 pub sends_item : {s t u : Progress} {A : Type 0} (f : A → List ℕ) (n : ℕ) (es : List A) (e : A) → n < length es → e ≡ get_or es n e →
     Sends s t (flat_map f (take n es)) → Sends t u (f e) → Sends s u (flat_map f (take (n + 1) es))

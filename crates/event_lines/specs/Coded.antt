@@ -1,6 +1,6 @@
 -- Codes as the events at their positions, and what is counted of bytes: this project's own.
-use Rattle.std.specs.Prelude.{◌≡◌, ℕ, ◌+◌, ◌%◌, ◌^◌, ◌×◌, List, [], ◌++◌, flat_map, get_or, length, map, sum, codes}
-use Rattle.std.specs.List.{AllByRecursion}
+use Rattle.std.specs.Prelude.{◌≡◌, ℕ, ◌+◌, ◌%◌, ◌^◌, List, [], ◌++◌, flat_map, get_or, length, map, sum, codes}
+use Rattle.std.specs.List.{All}
 use Rattle.rng_model.specs.Texts.{Text}
 use Rattle.rng_model.specs.Names.{Name}
 use Rattle.rng_model.specs.Events as event
@@ -20,7 +20,7 @@ lists_of u atoms = record { elements = u.elements.names; attributes = u.attribut
 
 -- each position is in range
 abbrev pub AreInRange : Lists → List coded.Code → Type 0
-AreInRange u cs = AllByRecursion (λ c. IsInRange u (code_of c)) cs
+AreInRange u cs = All (λ c. IsInRange u (code_of c)) cs
 
 -- the codes are by position those of the events
 abbrev pub AreCodesOf : Lists → List event.Event → List coded.Code → Type 0
@@ -49,11 +49,11 @@ abbrev pub lines_of_codes : Lists → List coded.Code → Text
 lines_of_codes u cs = flat_map (code_line u) cs ++ codes "\n"
 
 -- what is counted rises by the number of bytes and by their sum
-pub record Counts (old now : Measure) (bytes : List ℕ) : Type 0 where
-  pub bytes : now.bytes ≡ (old.bytes + length bytes) % 2 ^ 64
-  pub sum : now.sum ≡ (old.sum + sum bytes) % 2 ^ 32
+pub record Counts (old now : Measure) (text : Text) : Type 0 where
+  pub bytes : now.bytes ≡ (old.bytes + length text) % 2 ^ 64
+  pub sum : now.sum ≡ (old.sum + sum text) % 2 ^ 32
 
 -- the number of bytes modulo 2^64, and their sum modulo 2^32
-pub record IsMeasure (m : Measure) (bytes : List ℕ) : Type 0 where
-  pub bytes : m.bytes ≡ length bytes % 2 ^ 64
-  pub sum : m.sum ≡ sum bytes % 2 ^ 32
+pub record IsMeasure (m : Measure) (text : Text) : Type 0 where
+  pub bytes : m.bytes ≡ length text % 2 ^ 64
+  pub sum : m.sum ≡ sum text % 2 ^ 32
