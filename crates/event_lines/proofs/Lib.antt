@@ -4,3 +4,4 @@ pub mod Listing
 pub mod Written
 pub mod Coding
 pub mod Counting
+pub mod Schemas

@@ -7,7 +7,7 @@ use Rattle.event_lines.specs.Pieces.{Progress, Sends, Fails}
 use Rattle.event_lines.proofs.Sending.{sends_then, fails_then, fails_early}
 
 -- one item more
-pub one_more : {A : Type 0} (f : A → List ℕ) (n : ℕ) (es : List A) (e : A) → n < length es → e ≡ get_or es n e →
+one_more : {A : Type 0} (f : A → List ℕ) (n : ℕ) (es : List A) (e : A) → n < length es → e ≡ get_or es n e →
     flat_map f (take n es) ++ f e ≡ flat_map f (take (n + 1) es)
 one_more f n es e below is =
     ap (λ q. flat_map f (take n es) ++ q) (sym (append-nil (f e)))

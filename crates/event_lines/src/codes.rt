@@ -29,7 +29,12 @@ fn put_code<O: Sink>(
     match code {
         Code::Opening(name) => put_name_line(buffer, sink, b'(', universe.elements().get(name)),
         Code::Attr(name, text) => {
-            put_attribute_line(buffer, sink, universe.attributes().get(name), atoms.get(text))
+            put_attribute_line(
+                buffer,
+                sink,
+                universe.attributes().get(name),
+                atoms.get(text),
+            )
         }
         Code::Body => put_line(buffer, sink, b">\n"),
         Code::Chars(text) => put_text_line(buffer, sink, b'-', atoms.get(text)),

@@ -1,11 +1,20 @@
 // The text of a skeleton, and how many pieces it is handed over in.
-use crate::{read_skeleton, write_name_line, write_skeleton, write_text_line};
-use name_classes::Name;
+ghost use Rattle.std.specs.Prelude.{IsTrue, ◌↔◌};
+ghost use Rattle.rng_model.specs.Codes.{IsInRange};
+ghost use Rattle.skeleton.specs.Views.{code_of};
+ghost use Rattle.event_lines.specs.Coded.{AreInRange, lists_of};
+
+use crate::{
+    Measure, measure, read_skeleton, write_codes, write_name_line, write_skeleton, write_text_line,
+};
+use name_classes::{Name, NameClass};
+use name_universe::Universe;
 use outside::{Calls, MemSink};
-use skeleton::{Event, Events, Skeleton};
+use pattern_intern::{Definitions, Pool, Schema};
+use skeleton::{Code, Event, Events, Skeleton};
 use std::alloc::Global;
 use std::test::Fail;
-use text_atoms::Text;
+use text_atoms::{Atoms, Literals, Text, TextList};
 
 fn text(alloc: Global, characters: &str) -> Result<Text, Fail> {
     Ok(Text::from_string(String::from_str(alloc, characters)?))
@@ -87,5 +96,67 @@ fn lines(rt: HostRuntime) -> Result<(), Fail> {
     assert!(rt; write_text_line(b'T', &text(alloc, "a b")?, &mut sink).is_ok());
     let taken = sink.taken();
     assert!(rt; taken == b"E{u}a\nTa b\n".as_slice());
+    Ok(())
+}
+
+/// The names of a schema whose one element is `a`.
+#[tactic(auto, using(crate::proofs::Schemas::one_form))]
+fn universe(alloc: Global) -> Result<Universe, Fail> {
+    let pool = Pool::new(alloc)?;
+    let content = pool.empty();
+    let mut elements = Definitions::new(alloc);
+    elements.push(NameClass::One(name(alloc, "", "a")?), content)?;
+    let schema = Schema::new(pool, content, elements);
+    Ok(Universe::of(alloc, &schema, 1)?)
+}
+
+fn is_in_range(code: Code, universe: &Universe, atoms: &Atoms) -> bool
+    ensures { IsTrue result ↔ IsInRange (lists_of universe.now atoms.now) (code_of code) }
+{
+    match code {
+        Code::Opening(name) => name < universe.elements().len(),
+        Code::Attr(name, text) => name < universe.attributes().len() && text < atoms.len(),
+        Code::Chars(text) => text < atoms.len(),
+        Code::Body | Code::Closing => true,
+    }
+}
+
+fn are_in_range(codes: &[Code], universe: &Universe, atoms: &Atoms) -> bool
+    ensures { IsTrue result ↔ AreInRange (lists_of universe.now atoms.now) codes.now }
+{
+    codes.iter().all(|code| is_in_range(*code, universe, atoms))
+}
+
+/// Whether codes over these names and the text `t` are written as the bytes, and their measure.
+fn coded(alloc: Global, codes: &[Code], bytes: &[u8]) -> Result<Option<Measure>, Fail> {
+    let universe = universe(alloc)?;
+    let atoms = Atoms::of(alloc, &Literals::new(alloc), &TextList::new(alloc))?;
+    let mut sink = sink(alloc, 1000, 1000)?;
+    if !are_in_range(codes, &universe, &atoms) {
+        return Ok(None);
+    }
+    let done = write_codes(codes, &universe, &atoms, &mut sink).is_ok();
+    let measure = measure(codes, &universe, &atoms);
+    Ok(Some(measure).filter(|_| done && sink.taken() == bytes))
+}
+
+#[test]
+fn codes(rt: HostRuntime) -> Result<(), Fail> {
+    let alloc = rt.alloc();
+    let bytes = b"(a\n>\n)\n\n".as_slice();
+    assert!(rt; is_kept(alloc, bytes)?);
+    let one = [Code::Opening(0), Code::Body, Code::Closing];
+    let measure = Measure { bytes: 8, sum: 280 };
+    assert!(rt; coded(alloc, &one, bytes)? == Some(measure));
+    let all = [
+        Code::Opening(1),
+        Code::Attr(0, 0),
+        Code::Body,
+        Code::Chars(0),
+        Code::Closing,
+    ];
+    let bytes = b"(x\nA{urn:x}x t\n>\n-t\n)\n\n".as_slice();
+    assert!(rt; coded(alloc, &all, bytes)?.is_some());
+    assert!(rt; coded(alloc, &[Code::Chars(1)], bytes)?.is_none());
     Ok(())
 }
