@@ -1,74 +1,63 @@
--- The tokens of one element without content.
-use Rattle.std.proofs.Common.{◌≡◌, ℕ, ◌≤◌, ◌↔◌, Bool, true, false, List, [], ◌∷◌, length, map, refl, sym, ap, ◌∙◌, arith, IfSome, IfNone, IsTrue, IsUtf8, Bor}
-use Rattle.std.specs.Prelude.{Option, Some, None, Contains, slice_get}
-use Rattle.std.proofs.lemmas.Option.{slice_get-map}
+-- The tree of one element without content.
+use Rattle.std.proofs.Common.{◌≡◌, ℕ, ◌≤◌, ◌⊎◌, inl, inr, List, [], ◌∷◌, length, refl, sym, ap, subst, ◌∙◌, IsUtf8, IsTrue, true, false}
+use Rattle.std.specs.Prelude.{Some, None}
 use Rattle.std.proofs.lemmas.Str.{IsUtf8-nil}
 use Rattle.rng_model.specs.Texts.{Text}
 use Rattle.rng_model.specs.Names.{Name, IsName, is_ncname}
 use Rattle.rng_model.specs.Classes.{Class}
 use Rattle.rng_model.specs.Classes as classes
-use Rattle.rng_model.specs.Patterns.{Schema, Definition}
+use Rattle.rng_model.specs.Patterns.{Definition, Schema}
 use Rattle.one_element_laws.specs.OneElement.{one_element}
-use Rattle.token_laws.specs.Tokens.{Token, keyword, ident, symbol, open_brace, close_brace, Placed, ◌at◌}
-use Rattle.token_laws.specs.Tokens as word
-use Rattle.token_laws.specs.Names.{names_of}
-use Rattle.token_laws.specs.Lexing.{Tokens, Fault, LexRefusal}
-use Rattle.rnc_lexer.specs.Views.{IsTokenAt}
-use Rattle.list_command.specs.OneElementTokens.{token_at, element_tokens, IsOneElement}
-use Rattle.list_command.specs.Accepting.{Refuses, Accepts, lexing_fault, unqualified}
+use Rattle.token_laws.specs.Tokens.{Placed}
+use Rattle.token_laws.specs.Lexing.{Fault, Tokens, LexRefusal}
+use Rattle.grammar_laws.specs.Trees.{File, pattern, element, plain, empty}
+use Rattle.grammar_laws.specs.Grammar.{Derives}
+use Rattle.grammar_laws.specs.Files.{Full, of_one}
+use Rattle.grammar_laws.specs.Faults.{ParseFault, ParseRefusal}
+use Rattle.tree_laws.specs.WholeBodies.{IsWhole}
+use Rattle.schema_tree.specs.Features.{HasFeature}
+use Rattle.schema_tree.specs.Least.{IsLeast, IsFirstFeature}
+use Rattle.schema_tree.specs.declared.features.Feature.{Feature}
+use Rattle.list_command.specs.OneElementTrees.{IsOneElement, element_tree}
+use Rattle.list_command.specs.Accepting.{IsTreeOf, Refuses, Accepts, lexing_fault, parsing_fault, feature_fault, unqualified}
+use Rattle.list_command.specs.declared.outcome.SchemaFault.{SchemaFault}
 
 -- a fault of lexing refuses a schema
 pub refuses_at : (f : Fault) (place : ℕ) (bytes : List ℕ) → length bytes ≤ 1048576 → LexRefusal bytes f place → Refuses bytes (lexing_fault f place)
 refuses_at f place bytes short refusal = Refuses.no_tokens short refusal refl
 
--- five tokens in a row
-five : (ts : List Placed) (a b c d e : Token) → length ts ≡ 5 → IsTokenAt ts 0 a → IsTokenAt ts 1 b → IsTokenAt ts 2 c → IsTokenAt ts 3 d → IsTokenAt ts 4 e →
-    map token_at ts ≡ a ∷ b ∷ c ∷ d ∷ e ∷ []
-five [] a b c d e len i j k l m = absurd (omega arith)
-five (t ∷ []) a b c d e len i j k l m = absurd (omega arith)
-five (t ∷ u ∷ []) a b c d e len i j k l m = absurd (omega arith)
-five (t ∷ u ∷ v ∷ []) a b c d e len i j k l m = absurd (omega arith)
-five (t ∷ u ∷ v ∷ w ∷ []) a b c d e len i j k l m = absurd (omega arith)
-five (t ∷ u ∷ v ∷ w ∷ x ∷ []) a b c d e len i j k l m =
-    let first : t ≡ a at i.0 = cc in
-    let second : u ≡ b at j.0 = cc in
-    let third : v ≡ c at k.0 = cc in
-    let fourth : w ≡ d at l.0 = cc in
-    let fifth : x ≡ e at m.0 = cc in
-    rw (first, second, third, fourth, fifth) refl
-five (t ∷ u ∷ v ∷ w ∷ x ∷ y ∷ ts) a b c d e len i j k l m = absurd (omega arith)
-
--- a token of one element at its place
-token_there : (ts : List Placed) (name : Text) (i : ℕ) (t u : Token) → IsOneElement ts name → IsTokenAt ts i t → slice_get (element_tokens name) i ≡ Some u → t ≡ u
-token_there ts name i t u one (p, is) there =
-    let mapped : slice_get (map token_at ts) i ≡ Some t = rw (slice_get-map token_at ts i, is) refl in
-    let same : Some t ≡ Some u = sym mapped ∙ ap (λ us. slice_get us i) one ∙ there in
-    cc
-
--- another token
-pub other_token : (ts : List Placed) (i : ℕ) (t u : Token) (b : Bool) → IsTokenAt ts i t → IsTrue b ↔ (t ≡ u) → b ≡ false →
-    ((name : Text) → slice_get (element_tokens name) i ≡ Some u) → (name : Text) → IsOneElement ts name → ⊥
-other_token ts i t u b is decides fails there name one = let yes = decides.1 (token_there ts name i t u one is (there name)) in cc
+-- and so does one of the grammar
+pub refuses_tree : (f : ParseFault) (place : ℕ) (bytes : List ℕ) (tokens : List Placed) → length bytes ≤ 1048576 → Tokens bytes tokens →
+    ParseRefusal tokens (length bytes) f place → Refuses bytes (parsing_fault f place)
+refuses_tree f place bytes tokens short lexed refusal = Refuses.no_tree short lexed refusal refl
 
 -- it has one name
-pub one_element_name : (ts : List Placed) (m n : Text) → IsOneElement ts m → IsOneElement ts n → m ≡ n
-one_element_name ts m n a b = let same : element_tokens m ≡ element_tokens n = sym a ∙ b in cc
+pub one_element_name : (f : File) (m n : Text) → IsOneElement f m → IsOneElement f n → m ≡ n
+one_element_name f m n (a, b, i) (c, d, j) = let same : pattern (element (plain m b) empty a) ≡ pattern (element (plain n d) empty c) = ap (λ (t : File). t.body) (sym i ∙ j) in cc
 
--- which stands among the tokens
-ident_in : (ts : List Placed) (name : Text) → IsOneElement ts name → (place : ℕ) × Contains ts (ident name at place)
-ident_in [] name one = absurd (cc)
-ident_in (t at p ∷ []) name one = absurd (cc)
-ident_in (t at p ∷ u at q ∷ ts) name one = let is : u ≡ ident name = cc in (q, (1, omega arith, ap (λ v. v at q) is))
+-- and no feature that isn't taken
+pub no_feature : (n : ℕ) (file : File) (name : Text) (f : Feature) (place : ℕ) → IsOneElement file name → HasFeature (of_one n file) f place → ⊥
+no_feature n file name f place (a, b, i) h = go (rw i at h)
+  where
+    go : HasFeature (of_one n (element_tree name a b)) f place → ⊥
+    go (inl (inl e)) = e
+    go (inl (inr e)) = e
+    go (inr e) = e
 
--- what the laws of tokens say of names
-abbrev pub NamesAreNcNames : Type 0
-NamesAreNcNames = (bytes : List ℕ) (ts : List Placed) (t : Token) (a : ℕ) (name : Text) → Tokens bytes ts → Contains ts (t at a) → Contains (names_of t) name → IsUtf8 name × (is_ncname name ≡ true)
+-- what the law of trees says
+abbrev pub TreesAreWhole : Type 0
+TreesAreWhole = (bytes : List ℕ) (ts : List Placed) (f : File) → Tokens bytes ts → Derives ts f → IsWhole (length bytes) f.body
 
-pub element_ncname : NamesAreNcNames → (bytes : List ℕ) (ts : List Placed) (name : Text) → Tokens bytes ts → IsOneElement ts name → IsUtf8 name × (is_ncname name ≡ true)
-element_ncname names bytes ts name lexed one = let there = ident_in ts name one in names bytes ts (ident name) there.0 name lexed there.1 (0, omega arith, refl)
+pub element_ncname : TreesAreWhole → (bytes : List ℕ) (ts : List Placed) (f : File) (name : Text) → Tokens bytes ts → Derives ts f → IsOneElement f name →
+    IsUtf8 name × IsTrue (is_ncname name)
+element_ncname whole bytes ts f name lexed derives (a, b, i) =
+    let w : IsWhole (length bytes) (element_tree name a b).body = rw i at (whole bytes ts f lexed derives) in
+    w.names.1
 
-pub element_name : NamesAreNcNames → (bytes : List ℕ) (ts : List Placed) (name : Text) → Tokens bytes ts → IsOneElement ts name → IsName (unqualified name)
-element_name names bytes ts name lexed one = let both = element_ncname names bytes ts name lexed one in record { ns = IsUtf8-nil; local = both.0; ncname = both.1 }
+pub element_name : TreesAreWhole → (bytes : List ℕ) (ts : List Placed) (f : File) (name : Text) → Tokens bytes ts → Derives ts f → IsOneElement f name → IsName (unqualified name)
+element_name whole bytes ts f name lexed derives one =
+    let both = element_ncname whole bytes ts f name lexed derives one in
+    record { ns = IsUtf8-nil; local = both.0; ncname = both.1 }
 
 -- the name in a class of one name
 one_name : Name → Class → Name
@@ -77,24 +66,31 @@ one_name other class = other
 
 first_name : Name → List Definition → Name
 first_name other [] = other
-first_name other (element ∷ elements) = one_name other element.class
+first_name other (e ∷ es) = one_name other e.class
 
 -- the name of an accepted schema
 pub accepted_name : {bytes : List ℕ} {name : Name} (a : Accepts bytes (one_element name)) → name ≡ unqualified a.name
 unfolding first_name one_name
 accepted_name {name = name} a = ap (λ (g : Schema). first_name name g.elements) a.schema
 
--- the five tokens are those of one element, where the second is a name
-module _ (ts : List Placed) (a b c d e : Token) (len : length ts ≡ 5)
-    (i : IsTokenAt ts 0 a) (j : IsTokenAt ts 1 b) (k : IsTokenAt ts 2 c) (l : IsTokenAt ts 3 d) (m : IsTokenAt ts 4 e)
-    (opens : a ≡ keyword word.element) (brace : c ≡ symbol open_brace) (content : d ≡ keyword word.empty) (closes : e ≡ symbol close_brace) where
-  with_name : (name : Text) → b ≡ ident name → IsOneElement ts name
-  with_name name is = five ts a b c d e len i j k l m ∙ rw (opens, is, brace, content, closes) refl
+-- the least feature of a tree refuses it
+least_feature : (t : Full) (f : Feature) (a : ℕ) → IsLeast false (HasFeature t) (Some (f, a)) → IsFirstFeature t f a
+least_feature t f a h = record { there = h.0.1; first = λ g b is. h.1 g b tt is }
 
-  pub is_element : (r : Option (Bor Text)) → IfSome r (λ name. b ≡ ident name.now) → IfSome r (λ name. IsOneElement ts name.now)
-  is_element None h = tt
-  is_element (Some name) h = with_name name.now h
+pub refuses_feature : (bytes : List ℕ) (t : Full) (f : Feature) (a : ℕ) → IsTreeOf bytes t → IsLeast false (HasFeature t) (Some (f, a)) → Refuses bytes (feature_fault f a)
+refuses_feature bytes t f a (tokens, file, tree, same) h = Refuses.feature f tree (subst (λ u. IsFirstFeature u f a) same (least_feature t f a h)) refl
 
-pub no_element : (ts : List Placed) (b : Token) → IsTokenAt ts 1 b → (r : Option (Bor Text)) → IfNone r ((name : Text) → b ≡ ident name → ⊥) → IfNone r ((name : Text) → IsOneElement ts name → ⊥)
-no_element ts b is None h = λ name one. h name (token_there ts name 1 b (ident name) one is refl)
-no_element ts b is (Some name) h = tt
+-- and so does a tree of another schema
+pub refuses_others : (bytes : List ℕ) (t : Full) → IsTreeOf bytes t → IsLeast false (HasFeature t) None →
+    ((n : ℕ) (f : File) (name : Text) → t ≡ of_one n f → IsOneElement f name → ⊥) → Refuses bytes SchemaFault.NotYet
+refuses_others bytes t (tokens, file, tree, same) none others =
+    Refuses.not_yet tree (λ f a h. none f a tt (subst (λ u. HasFeature u f a) (sym same) h)) (λ name one. others (length bytes) file name same one)
+
+-- the tree of one element is accepted
+pub accepts_one : (bytes : List ℕ) (t : Full) (local : Text) (name : Name) → IsTreeOf bytes t → ((n : ℕ) (f : File) → t ≡ of_one n f → IsOneElement f local) →
+    name ≡ unqualified local → Accepts bytes (one_element name)
+accepts_one bytes t local name (tokens, file, tree, same) one is =
+    record { tokens = tokens; file = file; read = tree; name = local; one = one (length bytes) file same; schema = ap one_element is }
+
+pub tree_ncname : TreesAreWhole → (bytes : List ℕ) (t : Full) (local : Text) → IsTreeOf bytes t → ((n : ℕ) (f : File) → t ≡ of_one n f → IsOneElement f local) → is_ncname local ≡ true
+tree_ncname whole bytes t local (tokens, file, tree, same) one = (element_ncname whole bytes tokens file local tree.lexed tree.parsed.derives (one (length bytes) file same)).1

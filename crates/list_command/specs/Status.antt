@@ -3,7 +3,7 @@ use Rattle.std.specs.Prelude.{ℕ, List, ◌++◌, Option, Some, None, codes, de
 use Rattle.list_command.specs.declared.outcome.Outcome.{Outcome}
 use Rattle.list_command.specs.declared.outcome.Outcome.TheVariants.{Done, Words, SchemaRefused, ReadFault, WriteFault, OutOfMemory}
 use Rattle.list_command.specs.declared.outcome.SchemaFault.{SchemaFault}
-use Rattle.list_command.specs.declared.outcome.SchemaFault.TheVariants.{BadUtf8, BadCharacter, OpenLiteral, BadEscape, EscapeRefused, LiteralTooLong, NameTooLong, TooLong, NotYet}
+use Rattle.list_command.specs.declared.outcome.SchemaFault.TheVariants.{BadUtf8, BadCharacter, OpenLiteral, BadEscape, EscapeRefused, LiteralTooLong, NameTooLong, TooLong, NotYet, Syntax, TooDeep, Include, External, Inherit, List as ListFault, ForeignType, Parameter}
 
 abbrev pub status_of : Outcome → ℕ
 status_of Done = 0
@@ -24,6 +24,14 @@ schema_fault_text (LiteralTooLong place) = codes "6 LiteralTooLong at " ++ decim
 schema_fault_text (NameTooLong place) = codes "7 NameTooLong at " ++ decimal place
 schema_fault_text TooLong = codes "8 TooLong"
 schema_fault_text NotYet = codes "9 NotYet"
+schema_fault_text (Syntax place) = codes "11 Syntax at " ++ decimal place
+schema_fault_text (TooDeep place) = codes "12 TooDeep at " ++ decimal place
+schema_fault_text (Include place) = codes "21 Include at " ++ decimal place
+schema_fault_text (External place) = codes "22 External at " ++ decimal place
+schema_fault_text (Inherit place) = codes "23 Inherit at " ++ decimal place
+schema_fault_text (ListFault place) = codes "24 List at " ++ decimal place
+schema_fault_text (ForeignType place) = codes "25 ForeignType at " ++ decimal place
+schema_fault_text (Parameter place) = codes "26 Parameter at " ++ decimal place
 
 -- What goes to `err`, where one schema file was opened: nothing for a run that did its work.
 unfoldable pub fault_line : Outcome → Option (List ℕ)

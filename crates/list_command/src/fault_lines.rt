@@ -82,5 +82,13 @@ fn schema_fault(fault: &SchemaFault, line: &mut Line)
         SchemaFault::NameTooLong { at } => numbered(b"7 NameTooLong at ", *at, line),
         SchemaFault::TooLong => line.text(b"8 TooLong"),
         SchemaFault::NotYet => line.text(b"9 NotYet"),
+        SchemaFault::Syntax { at } => numbered(b"11 Syntax at ", *at, line),
+        SchemaFault::TooDeep { at } => numbered(b"12 TooDeep at ", *at, line),
+        SchemaFault::Include { at } => numbered(b"21 Include at ", *at, line),
+        SchemaFault::External { at } => numbered(b"22 External at ", *at, line),
+        SchemaFault::Inherit { at } => numbered(b"23 Inherit at ", *at, line),
+        SchemaFault::List { at } => numbered(b"24 List at ", *at, line),
+        SchemaFault::ForeignType { at } => numbered(b"25 ForeignType at ", *at, line),
+        SchemaFault::Parameter { at } => numbered(b"26 Parameter at ", *at, line),
     }
 }

@@ -1,21 +1,23 @@
 // Laws over the definitions.
-ghost use Rattle.std.specs.Prelude.{◌≡◌, ◌≤◌, ◌∷◌, [], ℕ, List, length, Some};
+ghost use Rattle.std.specs.Prelude.{◌≡◌, ◌∷◌, [], ℕ, List, Some};
 ghost use Rattle.rng_model.specs.Texts.{Text};
 ghost use Rattle.rng_model.specs.Lines.{skeleton_text};
 ghost use Rattle.one_element_laws.specs.OneElement.{root};
 ghost use Rattle.outside.specs.Devices.{Shelved, bytes_of};
 ghost use Rattle.token_laws.specs.Tokens.{Placed};
-ghost use Rattle.token_laws.specs.Lexing.{Tokens};
+ghost use Rattle.grammar_laws.specs.Trees.{File};
 ghost use Rattle.list_command.specs.declared.outcome.Outcome.{Outcome};
 ghost use Rattle.list_command.specs.Words.{HasForm};
 ghost use Rattle.list_command.specs.Requests.{plain_listing};
-ghost use Rattle.list_command.specs.OneElementTokens.{IsOneElement};
-ghost use Rattle.list_command.specs.Accepting.{unqualified};
+ghost use Rattle.list_command.specs.OneElementTrees.{IsOneElement};
+ghost use Rattle.list_command.specs.Accepting.{HasTree, unqualified};
 ghost use Rattle.list_command.specs.Runs.{OwesFor};
 
+use grammar_laws::{one_parse_refusal, one_tree, tree_or_refusal};
 use one_element_laws::{four_states, its_lists, one_skeleton};
 use rng_model::orders_are_total;
-use token_laws::{names_are_ncnames, one_lex_refusal, one_token_list, tokens_or_refusal};
+use token_laws::{one_lex_refusal, one_token_list, tokens_or_refusal};
+use tree_laws::trees_are_whole;
 
 /// Words and files owe one outcome and one list of bytes.
 pub fn one_is_owed()
@@ -28,17 +30,20 @@ pub fn one_is_owed()
     one_token_list();
     one_lex_refusal();
     tokens_or_refusal();
-    names_are_ncnames();
+    one_tree();
+    one_parse_refusal();
+    tree_or_refusal();
+    trees_are_whole();
 }
 
 /// The listing of a schema of one element without content owes the text of that element alone, whatever the size.
 pub fn one_element_owes_its_root()
-    ensures { (words : List Text) (n : ℕ) (file : Text) (files : Shelved) (bytes : List ℕ) (tokens : List Placed) (name : Text) →
-        HasForm words (plain_listing n file) → bytes_of files file ≡ Some bytes → length bytes ≤ 1048576 → Tokens bytes tokens → IsOneElement tokens name →
+    ensures { (words : List Text) (n : ℕ) (file : Text) (files : Shelved) (bytes : List ℕ) (tokens : List Placed) (tree : File) (name : Text) →
+        HasForm words (plain_listing n file) → bytes_of files file ≡ Some bytes → HasTree bytes tokens tree → IsOneElement tree name →
         OwesFor words files (file ∷ []) Outcome.Done (skeleton_text (root (unqualified name))) }
 {
     its_lists();
     one_skeleton();
     four_states();
-    names_are_ncnames();
+    trees_are_whole();
 }

@@ -23,8 +23,24 @@ pub enum SchemaFault {
     NameTooLong { at: usize },
     /// It has over 1,048,576 bytes.
     TooLong,
-    /// It is a schema that can't be listed yet, or none.
+    /// It is accepted so far, but can't be listed yet.
     NotYet,
+    /// The first token with which no schema goes on; the end of the file is a last token.
+    Syntax { at: usize },
+    /// The first `{` or `(` of nesting level 129.
+    TooDeep { at: usize },
+    /// An `include`.
+    Include { at: usize },
+    /// An `external`.
+    External { at: usize },
+    /// An `inherit` that takes a namespace from a referring file, or hands one over.
+    Inherit { at: usize },
+    /// A `list`.
+    List { at: usize },
+    /// A type of a library that isn't taken, or that its library doesn't have.
+    ForeignType { at: usize },
+    /// The first parameter of a datatype.
+    Parameter { at: usize },
 }
 
 /// How a run ends.

@@ -129,21 +129,25 @@ fn rows(rt: HostRuntime) -> Result<(), AllocError> {
             TEXT,
             "",
         ),
-        ("list 1 f", "element a { text }", 3, "", NOT_YET),
-        ("list 1 f", "element token { empty }", 3, "", NOT_YET),
-        ("list 1 f", "elementa { empty }", 3, "", NOT_YET),
-        ("list 1 f", "\\element a { empty }", 3, "", NOT_YET),
-        ("list 1 f", "element a:b { empty }", 3, "", NOT_YET),
-        ("list 1 f", "element a { empty } }", 3, "", NOT_YET),
-        ("list 1 f", "element a { empty", 3, "", NOT_YET),
-        ("list 1 f", "", 3, "", NOT_YET),
         (
             "list 1 f",
-            "{{{{{{{{{{{{{{{{{{{{{{{{{{{{{{{{{{{{{{{{{{{{{{{{{{{{{{{{{{{{{{{{{{{{{{{{{{{{{{{{{{{{{{{{{{{{{{{{{{{{{{{{{{{{{{{{{{{{{{{{{{{{{{{{{",
-            3,
+            "(element token { (empty) })",
+            0,
+            "(token\n>\n)\n\n",
             "",
-            NOT_YET,
         ),
+        (
+            "list 1 f",
+            "[ x = \"1\" ] element a { empty >> b [ \"(\" ] }",
+            0,
+            TEXT,
+            "",
+        ),
+        ("list 1 f", "element a { text }", 3, "", NOT_YET),
+        ("list 1 f", "element a:b { empty }", 3, "", NOT_YET),
+        ("list 1 f", "start = element a { empty }", 3, "", NOT_YET),
+        ("list 1 f", "element a | b { empty }", 3, "", NOT_YET),
+        ("list 1 f", "", 3, "", NOT_YET),
         ("list 1 g", SCHEMA, 6, "", "read\n"),
         ("list 0 f", SCHEMA, 2, "", "words\n"),
         ("list 65 f", SCHEMA, 2, "", "words\n"),
@@ -180,6 +184,42 @@ fn lexing_faults(rt: HostRuntime) -> Result<(), AllocError> {
     ];
     for (schema, err) in rows {
         let holds = gives(rt.alloc(), "list 1 f", schema, 3, "", err)?;
+        assert!(rt; holds);
+    }
+    Ok(())
+}
+
+#[test]
+fn grammar_faults_and_features(rt: HostRuntime) -> Result<(), AllocError> {
+    let rows = [
+        ("elementa { empty }", "schema 11 Syntax at 9\n"),
+        ("\\element a { empty }", "schema 11 Syntax at 9\n"),
+        ("element a { empty } }", "schema 11 Syntax at 20\n"),
+        ("element a {", "schema 11 Syntax at 11\n"),
+        (
+            "element a { empty , empty | empty }",
+            "schema 11 Syntax at 26\n",
+        ),
+        ("[ a ] x [ b ]", "schema 11 Syntax at 8\n"),
+        (
+            "{{{{{{{{{{{{{{{{{{{{{{{{{{{{{{{{{{{{{{{{{{{{{{{{{{{{{{{{{{{{{{{{{{{{{{{{{{{{{{{{{{{{{{{{{{{{{{{{{{{{{{{{{{{{{{{{{{{{{{{{{{{{{{{{{",
+            "schema 12 TooDeep at 128\n",
+        ),
+        ("include \"g\"", "schema 21 Include at 0\n"),
+        ("external \"g\"", "schema 22 External at 0\n"),
+        (
+            "default namespace = inherit element a { list { \"x\" } }",
+            "schema 23 Inherit at 20\n",
+        ),
+        ("element a { list { \"x\" } }", "schema 24 List at 12\n"),
+        ("element a { xsd:date }", "schema 25 ForeignType at 12\n"),
+        (
+            "element a { token { minLength = \"1\" } }",
+            "schema 26 Parameter at 20\n",
+        ),
+    ];
+    for (schema, err) in rows {
+        let holds = gives(rt.alloc(), "list 1 f", schema.as_bytes(), 3, "", err)?;
         assert!(rt; holds);
     }
     Ok(())

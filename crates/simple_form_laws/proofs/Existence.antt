@@ -220,19 +220,138 @@ entry_lead name is s e h = go (list_any (λ x. is_interleave x.method) (entries_
     go true = entry_member (is ∷ s) (entries_of name is) e h
     go false = entry_member (is ∷ s) (entries_of name is) e h
 
-module _ (fs : List SchemaFile) (whole : Pattern) (sound : IsSound fs whole) where
-  abbrev pub Form : Scope → Pattern → Type 0
-  Form s p = (q : simple.Pattern) × Means fs s p q
-
+-- what stands in a tree
+module _ (whole : Pattern) where
   -- each grammar of the scope stands in the tree
   abbrev pub IsScope : Scope → Type 0
   IsScope [] = ⊤
   IsScope (is ∷ s) = IsIn (part s (full.grammar is)) (parts_of [] whole) × IsScope s
 
+  entry_here : (name : Option Text) (is : Items) (s : Scope) (e : Entry) → IsIn (part s (full.grammar is)) (parts_of [] whole) → IsIn e (entries_of name is) → IsIn (part (is ∷ s) e.pattern) (parts_of [] whole)
+  entry_here name is s e h i =
+      parts_within [] whole (part s (full.grammar is)) (part (is ∷ s) e.pattern) h
+      (inr (entry_part (is ∷ s) is e (in_filter (λ x. same_key name x.name) e (entries is) i)))
+
+  -- what stands in the tree, or is what a name is defined as, in a scope of the tree
+  abbrev Place : Part → Type 0
+  Place x = IsScope x.scope × (IsIn x (parts_of [] whole) ⊎ ((name : Option Text) × (is : Items) × (s : Scope) × (x ≡ part (is ∷ s) (defined name is))))
+
+  place_here : (s : Scope) (p c : Pattern) → IsIn (part s p) (parts_of [] whole) → IsScope s → IsIn (part s c) (parts_of s p) → Place (part s c)
+  place_here s p c h sc i = (sc, inl (parts_within [] whole (part s p) (part s c) h i))
+
+  place_defined : (name : Option Text) (is : Items) (s : Scope) → IsScope (is ∷ s) → Place (part (is ∷ s) (defined name is))
+  place_defined name is s sc = (sc, inr (name, is, s, refl))
+
+  place_members : (s : Scope) (ps : Patterns) (y : Part) → ((c : Pattern) → IsIn (part s c) (each_part s ps) → Place (part s c)) → IsIn y (each_part s ps) → Place y
+  place_members s no_pattern y f h = absurd h
+  place_members s (more_patterns p ps) y f (inl e) = subst Place (sym e) (f p (inl refl))
+  place_members s (more_patterns p ps) y f (inr h) = place_members s ps y (λ c i. f c (inr i)) h
+
+  place_one : (x y : Part) → Place x → IsIn y (x ∷ []) → Place y
+  place_one x y f (inl e) = subst Place (sym e) f
+  place_one x y f (inr h) = absurd h
+
+  place_ref : (s : Scope) (name : Text) (at : ℕ) (y : Part) → IsScope s → IsIn y (leads s (full.ref name at)) → Place y
+  place_ref [] name at y sc i = absurd i
+  place_ref (is ∷ s) name at y sc i = place_one (part (is ∷ s) (defined (Some name) is)) y (place_defined (Some name) is s sc) i
+
+  place_parent : (s : Scope) (name : Text) (at : ℕ) (y : Part) → IsScope s → IsIn y (leads s (full.parent name at)) → Place y
+  place_parent [] name at y sc i = absurd i
+  place_parent (is ∷ []) name at y sc i = absurd i
+  place_parent (inner ∷ is ∷ s) name at y sc i = place_one (part (is ∷ s) (defined (Some name) is)) y (place_defined (Some name) is s sc.1) i
+
+  place_lead : (s : Scope) (p : Pattern) (y : Part) → IsIn (part s p) (parts_of [] whole) → IsScope s → IsIn y (leads s p) → Place y
+  place_lead s (full.element c p at) y h sc i = absurd i
+  place_lead s (full.attribute c p at) y h sc i = place_one (part s p) y (place_here s (full.attribute c p at) p h sc (inr (itself s p))) i
+  place_lead s (full.group ps) y h sc i = place_members s ps y (λ c j. place_here s (full.group ps) c h sc (inr (list_part s ps c j))) i
+  place_lead s (full.choice ps) y h sc i = place_members s ps y (λ c j. place_here s (full.choice ps) c h sc (inr (list_part s ps c j))) i
+  place_lead s (full.interleave ps) y h sc i = place_members s ps y (λ c j. place_here s (full.interleave ps) c h sc (inr (list_part s ps c j))) i
+  place_lead s (full.optional p) y h sc i = place_one (part s p) y (place_here s (full.optional p) p h sc (inr (itself s p))) i
+  place_lead s (full.zero_or_more p) y h sc i = place_one (part s p) y (place_here s (full.zero_or_more p) p h sc (inr (itself s p))) i
+  place_lead s (full.one_or_more p) y h sc i = place_one (part s p) y (place_here s (full.one_or_more p) p h sc (inr (itself s p))) i
+  place_lead s (full.list p at) y h sc i = place_one (part s p) y (place_here s (full.list p at) p h sc (inr (itself s p))) i
+  place_lead s (full.mixed p) y h sc i = place_one (part s p) y (place_here s (full.mixed p) p h sc (inr (itself s p))) i
+  place_lead s full.empty y h sc i = absurd i
+  place_lead s full.any_text y h sc i = absurd i
+  place_lead s full.not_allowed y h sc i = absurd i
+  place_lead s (full.value v w) y h sc i = absurd i
+  place_lead s (full.data_type v xs) y h sc i = absurd i
+  place_lead s (full.data_except v xs p) y h sc i = place_one (part s p) y (place_here s (full.data_except v xs p) p h sc (inr (itself s p))) i
+  place_lead s (full.external t passed at) y h sc i = absurd i
+  place_lead s (full.grammar is) y h sc i = place_one (part (is ∷ s) (defined None is)) y (place_defined None is s (h, sc)) i
+  place_lead s (full.ref name at) y h sc i = place_ref s name at y sc i
+  place_lead s (full.parent name at) y h sc i = place_parent s name at y sc i
+
+  place_entries : (is : Items) (s : Scope) (es : List Entry) (y : Part) → ((e : Entry) → IsIn e es → Place (part (is ∷ s) e.pattern)) → IsIn y (each_part (is ∷ s) (patterns_of_entries es)) → Place y
+  place_entries is s [] y f h = absurd h
+  place_entries is s (e ∷ es) y f (inl k) = subst Place (sym k) (f e (inl refl))
+  place_entries is s (e ∷ es) y f (inr h) = place_entries is s es y (λ x i. f x (inr i)) h
+
+  place_from_defined : (name : Option Text) (is : Items) (s : Scope) (y : Part) → IsScope (is ∷ s) → IsIn y (leads (is ∷ s) (defined name is)) → Place y
+  place_from_defined name is s y sc h =
+      go (list_any (λ x. is_interleave x.method) (entries_of name is)) h
+    where
+      each : (e : Entry) → IsIn e (entries_of name is) → Place (part (is ∷ s) e.pattern)
+      each e i = (sc, inl (entry_here name is s e sc.0 i))
+
+      go : (b : Bool) → IsIn y (leads (is ∷ s) (if b then full.interleave (patterns_of_entries (entries_of name is)) else full.choice (patterns_of_entries (entries_of name is)))) → Place y
+      go true i = place_entries is s (entries_of name is) y each i
+      go false i = place_entries is s (entries_of name is) y each i
+
+  no_content : (name : Option Text) (is : Items) (s : Scope) (y : Part) → IsIn y (inside s (defined name is)) → ⊥
+  no_content name is s y h = go (list_any (λ x. is_interleave x.method) (entries_of name is)) h
+    where
+      go : (b : Bool) → IsIn y (inside s (if b then full.interleave (patterns_of_entries (entries_of name is)) else full.choice (patterns_of_entries (entries_of name is)))) → ⊥
+      go true i = i
+      go false i = i
+
+  place_content : (s : Scope) (p : Pattern) (y : Part) → IsIn (part s p) (parts_of [] whole) → IsScope s → IsIn y (inside s p) → Place y
+  place_content s (full.element c p n) y h sc i = place_one (part s p) y (place_here s (full.element c p n) p h sc (inr (itself s p))) i
+  place_content s p y h sc i = absurd i
+
+  visited_place : (x : Part) → IsVisited whole x → Place x
+  visited_place x IsVisited.whole = (tt, inl (itself [] whole))
+  visited_place y (lead {x = x} v i) = go (visited_place x v)
+    where
+      h : IsIn y (leads x.scope x.pattern)
+      h = is_in y (leads x.scope x.pattern) i
+
+      go : Place x → Place y
+      go (sc, inl k) = place_lead x.scope x.pattern y k sc h
+      go (sc, inr (name, is, s, e)) =
+          place_from_defined name is s y (subst (λ z. IsScope z.scope) e sc) (subst (λ z. IsIn y (leads z.scope z.pattern)) e h)
+  visited_place y (content {x = x} v i) = go (visited_place x v)
+    where
+      h : IsIn y (inside x.scope x.pattern)
+      h = is_in y (inside x.scope x.pattern) i
+
+      go : Place x → Place y
+      go (sc, inl k) = place_content x.scope x.pattern y k sc h
+      go (sc, inr (name, is, s, e)) = absurd (no_content name is (is ∷ s) y (subst (λ z. IsIn y (inside z.scope z.pattern)) e h))
+
+  -- an element that can be reached stands in the tree
+  pub element_here : (s : Scope) (c : full.Class) (p : Pattern) (n : ℕ) → IsVisited whole (part s (full.element c p n)) → IsIn (part s (full.element c p n)) (parts_of [] whole) × IsScope s
+  element_here s c p n v = go (visited_place (part s (full.element c p n)) v)
+    where
+      never : (name : Option Text) (is : Items) → full.element c p n ≡ defined name is → ⊥
+      never name is e = pick (list_any (λ x. is_interleave x.method) (entries_of name is)) e
+        where
+          pick : (b : Bool) → full.element c p n ≡ (if b then full.interleave (patterns_of_entries (entries_of name is)) else full.choice (patterns_of_entries (entries_of name is))) → ⊥
+          pick true f = cc
+          pick false f = cc
+
+      go : Place (part s (full.element c p n)) → IsIn (part s (full.element c p n)) (parts_of [] whole) × IsScope s
+      go (sc, inl h) = (h, sc)
+      go (sc, inr (name, is, t, e)) = absurd (never name is (ap (λ x. x.pattern) e))
+
+module _ (fs : List SchemaFile) (whole : Pattern) (sound : IsSound fs whole) where
+  abbrev pub Form : Scope → Pattern → Type 0
+  Form s p = (q : simple.Pattern) × Means fs s p q
+
   -- the pattern stands in the tree and can be reached, and each part that leads to it is none of those that are left
   record IsReady (U : List Part) (s : Scope) (p : Pattern) : Type 0 where
     here : IsIn (part s p) (parts_of [] whole)
-    scope : IsScope s
+    scope : IsScope whole s
     visited : IsVisited whole (part s p)
     left : (x : Part) → IsIn x (parts_of [] whole) → IsIn x U ⊎ LeadsTo x (part s p)
 
@@ -286,19 +405,14 @@ module _ (fs : List SchemaFile) (whole : Pattern) (sound : IsSound fs whole) whe
       lead (lead v (contained (part (is ∷ s) (defined name is)) (leads x.scope x.pattern) l))
       (contained (part (is ∷ s) e.pattern) (leads (is ∷ s) (defined name is)) (entry_lead name is s e i))
 
-  entry_here : (name : Option Text) (is : Items) (s : Scope) (e : Entry) → IsIn (part s (full.grammar is)) (parts_of [] whole) → IsIn e (entries_of name is) → IsIn (part (is ∷ s) e.pattern) (parts_of [] whole)
-  entry_here name is s e h i =
-      parts_within [] whole (part s (full.grammar is)) (part (is ∷ s) e.pattern) h
-      (inr (entry_part (is ∷ s) is e (in_filter (λ x. same_key name x.name) e (entries is) i)))
-
   -- the entries of a reference x to a name of the grammar `is`
   reference_form : (U : List Part) → Below U → (x : Part) (at : ℕ) (name : Text) (is : Items) (s : Scope) → IsReferenceAt at x.pattern → IsReady U x.scope x.pattern →
-      IsScope (is ∷ s) → IsIn (part (is ∷ s) (defined (Some name) is)) (leads x.scope x.pattern) → is_empty_list (entries_of (Some name) is) ≡ false → Form (is ∷ s) (defined (Some name) is)
+      IsScope whole (is ∷ s) → IsIn (part (is ∷ s) (defined (Some name) is)) (leads x.scope x.pattern) → is_empty_list (entries_of (Some name) is) ≡ false → Form (is ∷ s) (defined (Some name) is)
   reference_form U b x at name is s ref r sc l n = go (r.left x r.here)
     where
       ready : (i : IsIn x U) (e : Entry) → IsIn e (entries_of (Some name) is) → IsReady (without x U i) (is ∷ s) e.pattern
       ready i e j = record {
-        here = entry_here (Some name) is s e sc.0 j;
+        here = entry_here whole (Some name) is s e sc.0 j;
         scope = sc;
         visited = visited_entry x (Some name) is s e r.visited l j;
         left = λ z h. rest z (r.left z h);
@@ -340,7 +454,7 @@ module _ (fs : List SchemaFile) (whole : Pattern) (sound : IsSound fs whole) whe
   -- a start of a grammar is ready where the grammar is
   ready_start : (U : List Part) (s : Scope) (is : Items) (e : Entry) → IsReady U s (full.grammar is) → IsIn e (entries is) → same_key None e.name ≡ true → IsReady U (is ∷ s) e.pattern
   ready_start U s is e r i t = record {
-    here = entry_here None is s e r.here j;
+    here = entry_here whole None is s e r.here j;
     scope = (r.here, r.scope);
     visited = visited_entry (part s (full.grammar is)) None is s e r.visited (inl refl) j;
     left = λ z h. rest z (r.left z h);
@@ -454,7 +568,7 @@ module _ (fs : List SchemaFile) (whole : Pattern) (sound : IsSound fs whole) whe
   make (suc n) U l = build U (λ x i. make n (without x U i) (let e = shorter x U i in omega arith))
 
   -- a part of the tree in a scope of the tree, that can be reached
-  pub part_form : (s : Scope) (p : Pattern) → IsIn (part s p) (parts_of [] whole) → IsScope s → IsVisited whole (part s p) → Form s p
+  pub part_form : (s : Scope) (p : Pattern) → IsIn (part s p) (parts_of [] whole) → IsScope whole s → IsVisited whole (part s p) → Form s p
   part_form s p h sc v =
       make (length (parts_of [] whole)) (parts_of [] whole) (omega arith) s p (record { here = h; scope = sc; visited = v; left = λ x i. inl i })
 
@@ -462,119 +576,8 @@ module _ (fs : List SchemaFile) (whole : Pattern) (sound : IsSound fs whole) whe
   pub whole_form : Form [] whole
   whole_form = part_form [] whole (itself [] whole) tt IsVisited.whole
 
-  -- what stands in the tree, or is what a name is defined as, in a scope of the tree
-  abbrev Place : Part → Type 0
-  Place x = IsScope x.scope × (IsIn x (parts_of [] whole) ⊎ ((name : Option Text) × (is : Items) × (s : Scope) × (x ≡ part (is ∷ s) (defined name is))))
-
-  place_here : (s : Scope) (p c : Pattern) → IsIn (part s p) (parts_of [] whole) → IsScope s → IsIn (part s c) (parts_of s p) → Place (part s c)
-  place_here s p c h sc i = (sc, inl (parts_within [] whole (part s p) (part s c) h i))
-
-  place_defined : (name : Option Text) (is : Items) (s : Scope) → IsScope (is ∷ s) → Place (part (is ∷ s) (defined name is))
-  place_defined name is s sc = (sc, inr (name, is, s, refl))
-
-  place_members : (s : Scope) (ps : Patterns) (y : Part) → ((c : Pattern) → IsIn (part s c) (each_part s ps) → Place (part s c)) → IsIn y (each_part s ps) → Place y
-  place_members s no_pattern y f h = absurd h
-  place_members s (more_patterns p ps) y f (inl e) = subst Place (sym e) (f p (inl refl))
-  place_members s (more_patterns p ps) y f (inr h) = place_members s ps y (λ c i. f c (inr i)) h
-
-  place_one : (x y : Part) → Place x → IsIn y (x ∷ []) → Place y
-  place_one x y f (inl e) = subst Place (sym e) f
-  place_one x y f (inr h) = absurd h
-
-  place_ref : (s : Scope) (name : Text) (at : ℕ) (y : Part) → IsScope s → IsIn y (leads s (full.ref name at)) → Place y
-  place_ref [] name at y sc i = absurd i
-  place_ref (is ∷ s) name at y sc i = place_one (part (is ∷ s) (defined (Some name) is)) y (place_defined (Some name) is s sc) i
-
-  place_parent : (s : Scope) (name : Text) (at : ℕ) (y : Part) → IsScope s → IsIn y (leads s (full.parent name at)) → Place y
-  place_parent [] name at y sc i = absurd i
-  place_parent (is ∷ []) name at y sc i = absurd i
-  place_parent (inner ∷ is ∷ s) name at y sc i = place_one (part (is ∷ s) (defined (Some name) is)) y (place_defined (Some name) is s sc.1) i
-
-  place_lead : (s : Scope) (p : Pattern) (y : Part) → IsIn (part s p) (parts_of [] whole) → IsScope s → IsIn y (leads s p) → Place y
-  place_lead s (full.element c p at) y h sc i = absurd i
-  place_lead s (full.attribute c p at) y h sc i = place_one (part s p) y (place_here s (full.attribute c p at) p h sc (inr (itself s p))) i
-  place_lead s (full.group ps) y h sc i = place_members s ps y (λ c j. place_here s (full.group ps) c h sc (inr (list_part s ps c j))) i
-  place_lead s (full.choice ps) y h sc i = place_members s ps y (λ c j. place_here s (full.choice ps) c h sc (inr (list_part s ps c j))) i
-  place_lead s (full.interleave ps) y h sc i = place_members s ps y (λ c j. place_here s (full.interleave ps) c h sc (inr (list_part s ps c j))) i
-  place_lead s (full.optional p) y h sc i = place_one (part s p) y (place_here s (full.optional p) p h sc (inr (itself s p))) i
-  place_lead s (full.zero_or_more p) y h sc i = place_one (part s p) y (place_here s (full.zero_or_more p) p h sc (inr (itself s p))) i
-  place_lead s (full.one_or_more p) y h sc i = place_one (part s p) y (place_here s (full.one_or_more p) p h sc (inr (itself s p))) i
-  place_lead s (full.list p at) y h sc i = place_one (part s p) y (place_here s (full.list p at) p h sc (inr (itself s p))) i
-  place_lead s (full.mixed p) y h sc i = place_one (part s p) y (place_here s (full.mixed p) p h sc (inr (itself s p))) i
-  place_lead s full.empty y h sc i = absurd i
-  place_lead s full.any_text y h sc i = absurd i
-  place_lead s full.not_allowed y h sc i = absurd i
-  place_lead s (full.value v w) y h sc i = absurd i
-  place_lead s (full.data_type v xs) y h sc i = absurd i
-  place_lead s (full.data_except v xs p) y h sc i = place_one (part s p) y (place_here s (full.data_except v xs p) p h sc (inr (itself s p))) i
-  place_lead s (full.external t passed at) y h sc i = absurd i
-  place_lead s (full.grammar is) y h sc i = place_one (part (is ∷ s) (defined None is)) y (place_defined None is s (h, sc)) i
-  place_lead s (full.ref name at) y h sc i = place_ref s name at y sc i
-  place_lead s (full.parent name at) y h sc i = place_parent s name at y sc i
-
-  place_entries : (is : Items) (s : Scope) (es : List Entry) (y : Part) → ((e : Entry) → IsIn e es → Place (part (is ∷ s) e.pattern)) → IsIn y (each_part (is ∷ s) (patterns_of_entries es)) → Place y
-  place_entries is s [] y f h = absurd h
-  place_entries is s (e ∷ es) y f (inl k) = subst Place (sym k) (f e (inl refl))
-  place_entries is s (e ∷ es) y f (inr h) = place_entries is s es y (λ x i. f x (inr i)) h
-
-  place_from_defined : (name : Option Text) (is : Items) (s : Scope) (y : Part) → IsScope (is ∷ s) → IsIn y (leads (is ∷ s) (defined name is)) → Place y
-  place_from_defined name is s y sc h =
-      go (list_any (λ x. is_interleave x.method) (entries_of name is)) h
-    where
-      each : (e : Entry) → IsIn e (entries_of name is) → Place (part (is ∷ s) e.pattern)
-      each e i = (sc, inl (entry_here name is s e sc.0 i))
-
-      go : (b : Bool) → IsIn y (leads (is ∷ s) (if b then full.interleave (patterns_of_entries (entries_of name is)) else full.choice (patterns_of_entries (entries_of name is)))) → Place y
-      go true i = place_entries is s (entries_of name is) y each i
-      go false i = place_entries is s (entries_of name is) y each i
-
-  no_content : (name : Option Text) (is : Items) (s : Scope) (y : Part) → IsIn y (inside s (defined name is)) → ⊥
-  no_content name is s y h = go (list_any (λ x. is_interleave x.method) (entries_of name is)) h
-    where
-      go : (b : Bool) → IsIn y (inside s (if b then full.interleave (patterns_of_entries (entries_of name is)) else full.choice (patterns_of_entries (entries_of name is)))) → ⊥
-      go true i = i
-      go false i = i
-
-  place_content : (s : Scope) (p : Pattern) (y : Part) → IsIn (part s p) (parts_of [] whole) → IsScope s → IsIn y (inside s p) → Place y
-  place_content s (full.element c p n) y h sc i = place_one (part s p) y (place_here s (full.element c p n) p h sc (inr (itself s p))) i
-  place_content s p y h sc i = absurd i
-
-  visited_place : (x : Part) → IsVisited whole x → Place x
-  visited_place x IsVisited.whole = (tt, inl (itself [] whole))
-  visited_place y (lead {x = x} v i) = go (visited_place x v)
-    where
-      h : IsIn y (leads x.scope x.pattern)
-      h = is_in y (leads x.scope x.pattern) i
-
-      go : Place x → Place y
-      go (sc, inl k) = place_lead x.scope x.pattern y k sc h
-      go (sc, inr (name, is, s, e)) =
-          place_from_defined name is s y (subst (λ z. IsScope z.scope) e sc) (subst (λ z. IsIn y (leads z.scope z.pattern)) e h)
-  visited_place y (content {x = x} v i) = go (visited_place x v)
-    where
-      h : IsIn y (inside x.scope x.pattern)
-      h = is_in y (inside x.scope x.pattern) i
-
-      go : Place x → Place y
-      go (sc, inl k) = place_content x.scope x.pattern y k sc h
-      go (sc, inr (name, is, s, e)) = absurd (no_content name is (is ∷ s) y (subst (λ z. IsIn y (inside z.scope z.pattern)) e h))
-
-  -- an element that can be reached stands in the tree, and its content has a form
-  element_here : (s : Scope) (c : full.Class) (p : Pattern) (n : ℕ) → IsVisited whole (part s (full.element c p n)) → IsIn (part s (full.element c p n)) (parts_of [] whole) × IsScope s
-  element_here s c p n v = go (visited_place (part s (full.element c p n)) v)
-    where
-      never : (name : Option Text) (is : Items) → full.element c p n ≡ defined name is → ⊥
-      never name is e = pick (list_any (λ x. is_interleave x.method) (entries_of name is)) e
-        where
-          pick : (b : Bool) → full.element c p n ≡ (if b then full.interleave (patterns_of_entries (entries_of name is)) else full.choice (patterns_of_entries (entries_of name is))) → ⊥
-          pick true f = cc
-          pick false f = cc
-
-      go : Place (part s (full.element c p n)) → IsIn (part s (full.element c p n)) (parts_of [] whole) × IsScope s
-      go (sc, inl h) = (h, sc)
-      go (sc, inr (name, is, t, e)) = absurd (never name is (ap (λ x. x.pattern) e))
-
+  -- its content has a form
   pub content_form : (s : Scope) (c : full.Class) (p : Pattern) (n : ℕ) → IsVisited whole (part s (full.element c p n)) → IsIn (part s (full.element c p n)) (parts_of [] whole) × Form s p
   content_form s c p n v =
-      let h = element_here s c p n v in
+      let h = element_here whole s c p n v in
       (h.0, part_form s p (parts_within [] whole (part s (full.element c p n)) (part s p) h.0 (inr (itself s p))) h.1 (content v (contained (part s p) (inside s (full.element c p n)) (inl refl))))

@@ -13,6 +13,7 @@ pub mod Kept
 pub mod Refs
 pub mod Existence
 pub mod Origins
+pub mod Tokens
 pub mod Schemas
 pub mod Faultless
 pub mod Wellformed

@@ -1,6 +1,6 @@
 -- A tree whose names resolve, and in which no reference leads back to itself, has a simple form.
-use Rattle.std.proofs.Common.{◌≡◌, ℕ, zero, suc, ◌<◌, ◌≤◌, ◌⊎◌, inl, inr, List, [], ◌∷◌, ◌++◌, length, Option, Some, None, refl, sym, ◌∙◌, ap, subst, arith}
-use Rattle.std.specs.List.{AllByRecursion, cons_option}
+use Rattle.std.proofs.Common.{◌≡◌, ℕ, zero, suc, ◌<◌, ◌≤◌, ◌⊎◌, inl, inr, List, [], ◌∷◌, ◌++◌, length, Some, refl, sym, ◌∙◌, ap, subst, arith}
+use Rattle.std.specs.List.{AllByRecursion}
 use Rattle.std.specs.List.Sorted.{IsStrictlySortedBy}
 use Rattle.std.specs.declared.cmp.Ordering.{Ordering}
 use Rattle.std.specs.declared.cmp.Ordering.TheVariants.{Less, Equal, Greater}
@@ -13,9 +13,9 @@ use Rattle.derivative_laws.proofs.Members.{IsIn, is_in, contained, in_left, in_r
 use Rattle.grammar_laws.specs.Trees.{Pattern}
 use Rattle.grammar_laws.specs.Files.{Full}
 use Rattle.grammar_laws.specs.Trees as full
-use Rattle.simple_form_laws.specs.Parts.{Scope, Part, part, parts_of}
+use Rattle.simple_form_laws.specs.Parts.{part, parts_of}
 use Rattle.simple_form_laws.specs.Meaning.{Means}
-use Rattle.simple_form_laws.specs.Forms.{tree, ElementToken, token_at, tokens_of, tokens, token_of, HasRef, IsReached, from_start, from_content, new_number, renumbered, AreDefinitions, IsFormOf}
+use Rattle.simple_form_laws.specs.Forms.{tree, ElementToken, tokens, token_of, HasRef, IsReached, from_start, from_content, new_number, renumbered, AreDefinitions, IsFormOf}
 use Rattle.simple_form_laws.specs.Faults.{IsVisited, whole, content, inside}
 use Rattle.simple_form_laws.proofs.OneMeaning.{found}
 use Rattle.simple_form_laws.proofs.Numbers.{own_number}
@@ -23,18 +23,7 @@ use Rattle.simple_form_laws.proofs.Reached.{StaysIn, reached_in}
 use Rattle.simple_form_laws.proofs.Refs.{refs_of, refs_to, refs_from}
 use Rattle.simple_form_laws.proofs.Existence.{IsSound, without, shorter, or_there, whole_form, content_form}
 use Rattle.simple_form_laws.proofs.Origins.{Origin, origin}
-
-token_in : (xs : List Part) (s : Scope) (c : full.Class) (p : Pattern) (n : ℕ) → IsIn (part s (full.element c p n)) xs →
-    IsIn (record { number = n; scope = s; class = c; content = p }) (tokens_of xs)
-token_in [] s c p n h = absurd h
-token_in (x ∷ xs) s c p n (inl e) =
-    subst (λ z. IsIn (record { number = n; scope = s; class = c; content = p }) (cons_option (token_at z.scope z.pattern) (tokens_of xs))) e (inl refl)
-token_in (x ∷ xs) s c p n (inr h) = go (token_at x.scope x.pattern) (token_in xs s c p n h)
-  where
-    go : (o : Option ElementToken) → IsIn (record { number = n; scope = s; class = c; content = p }) (tokens_of xs) →
-        IsIn (record { number = n; scope = s; class = c; content = p }) (cons_option o (tokens_of xs))
-    go None i = i
-    go (Some u) i = inr i
+use Rattle.simple_form_laws.proofs.Tokens.{token_in}
 
 -- an ascending list with the same members
 insert : ℕ → List ℕ → List ℕ

@@ -17,37 +17,37 @@ use Rattle.simple_form_laws.specs.Forms.{tree, HasRef, IsReached, from_start, fr
 use Rattle.rng_model.specs.Depths.{depth, in_choice}
 use Rattle.simple_form_laws.proofs.Kept.{in_its_place}
 
-after_all : IsAll_of HasNoAfter
+pub after_all : IsAll_of HasNoAfter
 after_all = record { always = tt; first = λ p q h. h.0; second = λ p q h. h.1; from = λ p q h k. (h, k) }
 
-no_after_group : (p q : simple.Pattern) → HasNoAfter p → HasNoAfter q → HasNoAfter (group_of p q)
+pub no_after_group : (p q : simple.Pattern) → HasNoAfter p → HasNoAfter q → HasNoAfter (group_of p q)
 no_after_group simple.not_allowed q h k = tt
 no_after_group p simple.not_allowed h k = tt
 no_after_group simple.empty q h k = k
 no_after_group p simple.empty h k = h
 no_after_group p q h k = (h, k)
 
-no_after_interleave : (p q : simple.Pattern) → HasNoAfter p → HasNoAfter q → HasNoAfter (interleave_of p q)
+pub no_after_interleave : (p q : simple.Pattern) → HasNoAfter p → HasNoAfter q → HasNoAfter (interleave_of p q)
 no_after_interleave simple.not_allowed q h k = tt
 no_after_interleave p simple.not_allowed h k = tt
 no_after_interleave simple.empty q h k = k
 no_after_interleave p simple.empty h k = h
 no_after_interleave p q h k = (h, k)
 
-no_after_more : (p : simple.Pattern) → HasNoAfter p → HasNoAfter (one_or_more_of p)
+pub no_after_more : (p : simple.Pattern) → HasNoAfter p → HasNoAfter (one_or_more_of p)
 no_after_more simple.not_allowed h = tt
 no_after_more simple.empty h = tt
 no_after_more p h = h
 
-no_after_attribute : (c : Class) (p : simple.Pattern) → HasNoAfter p → HasNoAfter (attribute_of c p)
+pub no_after_attribute : (c : Class) (p : simple.Pattern) → HasNoAfter p → HasNoAfter (attribute_of c p)
 no_after_attribute c simple.not_allowed h = tt
 no_after_attribute c p h = h
 
-no_after_data : (k : Kind) (p : simple.Pattern) → HasNoAfter p → HasNoAfter (data_of k p)
+pub no_after_data : (k : Kind) (p : simple.Pattern) → HasNoAfter p → HasNoAfter (data_of k p)
 no_after_data k simple.not_allowed h = tt
 no_after_data k p h = h
 
-no_after_joined : (j : Connective) (p q : simple.Pattern) → HasNoAfter p → HasNoAfter q → HasNoAfter (connect j p q)
+pub no_after_joined : (j : Connective) (p q : simple.Pattern) → HasNoAfter p → HasNoAfter q → HasNoAfter (connect j p q)
 no_after_joined Group p q h k = no_after_group p q h k
 no_after_joined Choice p q h k = choice_of-all HasNoAfter after_all p q h k
 no_after_joined Interleave p q h k = no_after_interleave p q h k

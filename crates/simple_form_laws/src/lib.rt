@@ -10,12 +10,13 @@ ghost use Rattle.rng_model.specs.Patterns as simple;
 ghost use Rattle.rng_model.specs.Patterns.{Schema, Definition, Defines, IsSimpleForm};
 ghost use Rattle.rng_model.specs.Constructors.{choice_of, group_of, interleave_of, one_or_more_of, attribute_of, data_of};
 ghost use Rattle.grammar_laws.specs.Trees.{Pattern};
+ghost use Rattle.grammar_laws.specs.Trees as full;
 ghost use Rattle.grammar_laws.specs.Files.{SchemaFile, Full};
 ghost use Rattle.simple_form_laws.specs.Parts.{Scope, part};
 ghost use Rattle.simple_form_laws.specs.Meaning.{Means};
-ghost use Rattle.simple_form_laws.specs.Forms.{IsFormOf, ElementToken, tokens, token_of, HasRef, new_number, renumbered, RefsIn};
+ghost use Rattle.simple_form_laws.specs.Forms.{IsFormOf, ElementToken, tree, tokens, token_of, HasRef, IsReached, new_number, renumbered, RefsIn};
 ghost use Rattle.simple_form_laws.specs.Normal.{HasNormalChoices};
-ghost use Rattle.simple_form_laws.specs.Faults.{Fault, HasFault, IsSimplifiable, SimplifyRefusal, Simple, LeadsTo, UnboundPrefix, PrefixTwice, ReservedPrefix, ClassConstraint, XmlnsAttribute, NoStart, UndefinedName, ParentOutside, CombineMixed, DefinedTwice, Loop, ExpandedTooDeep, BadValue};
+ghost use Rattle.simple_form_laws.specs.Faults.{Fault, HasFault, IsSimplifiable, SimplifyRefusal, Simple, LeadsTo, IsVisited, UnboundPrefix, PrefixTwice, ReservedPrefix, ClassConstraint, XmlnsAttribute, NoStart, UndefinedName, ParentOutside, CombineMixed, DefinedTwice, Loop, ExpandedTooDeep, BadValue};
 ghost use Rattle.simple_form_laws.specs.Examples.{unbound, twice, reserved, constrained, xmlns_attribute, without_start, undefined, parent_outside, mixed_methods, twice_defined, looping, looping_by_two, zero_value, joined_elements, mixed_content, mixed_schema, combined, combined_schema, with_parent, parent_schema};
 
 /// A pattern has at most one simple form where it stands.
@@ -70,6 +71,11 @@ pub fn what_a_form_has()
 /// Each `element` of a schema has a number of its own.
 pub fn own_numbers()
     ensures { (f : Full) (t : ElementToken) → Contains (tokens f) t → token_of f t.number ≡ Some t }
+{}
+
+/// Each `element` that can be reached in the simple form stands in the tree, and can be reached there too.
+pub fn reached_tokens()
+    ensures { (f : Full) (n : ℕ) → IsReached f n → (t : ElementToken) × (token_of f n ≡ Some t) × IsVisited (tree f) (part t.scope (full.element t.class t.content n)) }
 {}
 
 /// An element that is kept gets its place among the kept ones as its new number, and the numbers ascend as before.

@@ -9,5 +9,8 @@ returns c = one_owed (record {
   lexed_once = c.one_token_list.ensures;
   refused_once = c.one_lex_refusal.ensures;
   lexed_or_refused = c.tokens_or_refusal.ensures;
-  names = c.names_are_ncnames.ensures;
+  derived_once = c.one_tree.ensures;
+  unparsed_once = c.one_parse_refusal.ensures;
+  parsed_or_refused = c.tree_or_refusal.ensures;
+  whole = c.trees_are_whole.ensures.body;
 })

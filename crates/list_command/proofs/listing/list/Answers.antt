@@ -58,7 +58,7 @@ pub returns-in-Ok-write_skeleton-clause-owed : goal.returns-in-Ok-write_skeleton
 returns-in-Ok-write_skeleton-clause-owed g c = λ files told words form.
     let held = held_bytes (g.F.Shelf.files c.args.shelf.now) files c.args.listing.now.file.now c.in-Ok.bytes.items told c.in-Ok.ensures.bytes in
     let accepts : Accepts c.in-Ok.bytes.items (one_element c.in-Ok-read_schema.name) = rw c.as_slice.ensures.value at c.in-Ok-read_schema.ensures.accepted in
-    let owes = c.one_element_owes_its_root.ensures words c.args.listing.now.size c.args.listing.now.file.now files c.in-Ok.bytes.items accepts.tokens accepts.name form held accepts.short accepts.lexed accepts.one in
+    let owes = c.one_element_owes_its_root.ensures words c.args.listing.now.size c.args.listing.now.file.now files c.in-Ok.bytes.items accepts.tokens accepts.file accepts.name form held accepts.read accepts.one in
     ends_listed words files _ _ _ _ _ _ _ _ owes (ap skeleton_text (c.in-Ok-root_of.ensures ∙ ap root (accepted_name accepts))) c.in-Ok-write_skeleton.ensures.ok
 
 pub returns-in-Ok-write_skeleton-clause-calls : goal.returns-in-Ok-write_skeleton-clause-calls
@@ -68,7 +68,7 @@ pub returns-clause-owed : goal.returns-clause-owed
 returns-clause-owed g c = λ files told words form.
     let held = held_bytes (g.F.Shelf.files c.args.shelf.now) files c.args.listing.now.file.now c.in-Ok.bytes.items told c.in-Ok.ensures.bytes in
     let accepts : Accepts c.in-Ok.bytes.items (one_element c.in-Ok-read_schema.name) = rw c.as_slice.ensures.value at c.in-Ok-read_schema.ensures.accepted in
-    let owes = c.one_element_owes_its_root.ensures words c.args.listing.now.size c.args.listing.now.file.now files c.in-Ok.bytes.items accepts.tokens accepts.name form held accepts.short accepts.lexed accepts.one in
+    let owes = c.one_element_owes_its_root.ensures words c.args.listing.now.size c.args.listing.now.file.now files c.in-Ok.bytes.items accepts.tokens accepts.file accepts.name form held accepts.read accepts.one in
     ends_unwritten words files _ _ _ _ _ _ _ _ owes (ap skeleton_text (c.in-Ok-root_of.ensures ∙ ap root (accepted_name accepts))) c.one_is_owed.ensures c.in-Err.ensures.cause.failed c.in-Err.ensures.err
 
 pub returns-clause-calls : goal.returns-clause-calls

@@ -1,0 +1,13 @@
+pub mod Lists
+pub mod Contents
+pub mod Searched
+pub mod Whole
+pub mod References
+pub mod Shown
+pub mod Reached
+pub mod Built
+pub mod Ascending
+pub mod Deep
+pub mod Remaking
+pub mod Assembled
+pub mod TooDeep

@@ -1,0 +1,9 @@
+pub mod Tables
+pub mod LeastPlaces
+pub mod Loops
+pub mod Sums
+pub mod Again
+pub mod Within
+pub mod ClassParts
+pub mod Folds
+pub mod Simple

@@ -1,0 +1,8 @@
+use Rattle.std.proofs.Common.{◌≡◌, ℕ, List, ◌∷◌, take}
+use Rattle.std.specs.Prelude.{flat_map, codes}
+use Rattle.schema_tree.specs.Trees.{declaration_of}
+use Rattle.simple_form_laws.specs.Prefixes.{look_up, prefixes, xml_uri}
+use Rattle.name_resolution.proofs.file.namespaces.Given as goal
+
+abbrev pub invariant-loop-declaration : goal.invariant-loop-declaration
+invariant-loop-declaration l = (p : List ℕ) → look_up l.table p ≡ look_up ((codes "xml", xml_uri) ∷ flat_map (λ d. prefixes l.inherited (declaration_of d)) (take l.declaration-index l.declarations)) p

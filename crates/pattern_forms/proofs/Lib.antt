@@ -1,0 +1,16 @@
+pub mod Lists
+pub mod Leading
+pub mod Searched
+pub mod Cycles
+pub mod Nesting
+pub mod Wholes
+pub mod Meanings
+pub mod Examples
+pub mod Looping
+pub mod Descending
+pub mod Ending
+pub mod Visiting
+pub mod Closing
+pub mod Starting
+pub mod Forming
+pub mod Paths
