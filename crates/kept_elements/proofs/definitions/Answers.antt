@@ -6,7 +6,7 @@ use Rattle.kept_elements.proofs.Remaking.{listed_within}
 use Rattle.kept_elements.proofs.definitions.Goals as goal
 
 pub loop-k-init : goal.loop-k-init
-loop-k-init c = subst (AreSomeEntries c.args.graph.now c.args.forms.now.pool c.args.remade.now.pool c.args.forms.now.forms.items c.args.kept.now 0) (sym c.new-definitions.ensures) (no_entries c.args.graph.now c.args.forms.now.pool c.args.forms.now.forms.items c.args.remade.now.pool c.args.kept.now)
+loop-k-init c = subst (AreSomeEntries c.args.graph.now c.args.forms.now.pool c.args.remade.now.pool c.args.forms.now.forms.items c.args.kept.now 0) (sym c.new-definitions.ensures.none) (no_entries c.args.graph.now c.args.forms.now.pool c.args.forms.now.forms.items c.args.remade.now.pool c.args.kept.now)
 
 pub element_class-requires : goal.element_class-requires
 element_class-requires c = rw c.deref.ensures.value (kept_content c.args.graph.now c.args.forms.now.pool c.args.forms.now.forms.items c.args.kept.now c.loop-k.k 0 c.requires.ready c.requires.kept c.loop-k-test.true)
