@@ -7,7 +7,8 @@ ghost use Rattle.pattern_intern.specs.Stored.{count};
 use event_lines::read_skeleton;
 use name_classes::{Name, NameClass};
 use pattern_intern::{PatternId, Pool};
-use rnc_lexer::lex;
+use rnc_lexer::{Tokens, lex};
+use rnc_parser::parse;
 use std::alloc::{AllocError, Global};
 use std::time::Instant;
 use std::{env, io};
@@ -37,6 +38,18 @@ fn piece_of(name: &str) -> Option<&'static str> {
         "lex-quotes" => Some("\"'\" '\"' "),
         "lex-escaped-names" => Some("\\xa "),
         "lex-escapes" => Some("'\\x{41}' "),
+        _ => None,
+    }
+}
+
+/// What the schema of a benchmark of the parser is filled with.
+fn parsed_piece_of(name: &str) -> Option<&'static str> {
+    match name {
+        "parse-choice" => Some("a|"),
+        "parse-group" => Some("a,"),
+        "parse-definitions" => Some("a=b "),
+        "parse-declarations" => Some("namespace a=\"\" "),
+        "parse-annotations" => Some("["),
         _ => None,
     }
 }
@@ -157,11 +170,50 @@ fn time_pool(rt: &HostRuntime, name: &str) -> io::Result<bool> {
     Ok(true)
 }
 
+/// Whether the tokens are those of a schema.
+fn is_schema(alloc: Global, tokens: &Tokens) -> bool {
+    parse(alloc, tokens).is_ok()
+}
+
+/// Times a benchmark of the parser. False where it isn't one.
+fn time_parser(rt: &HostRuntime, name: &str) -> io::Result<bool> {
+    let Some(piece) = parsed_piece_of(name) else {
+        return Ok(false);
+    };
+    let alloc = rt.alloc();
+    let bytes = filled(alloc, piece, SCHEMA)?;
+    let Ok(tokens) = lex(alloc, bytes.as_slice()) else {
+        return Ok(false);
+    };
+    let start = Instant::now(rt)?;
+    let parsed = is_schema(alloc, &tokens);
+    let micros = start.elapsed(rt)?.as_micros();
+    println!(rt;
+        "{name}: {} tokens, schema {parsed} in {micros} microseconds",
+        tokens.len()
+    )?;
+    Ok(true)
+}
+
+/// Times a benchmark of the reader of documents. False where it isn't one.
+fn time_reader(rt: &HostRuntime, name: &str) -> io::Result<bool> {
+    let Some(lines) = lines_of(name) else {
+        return Ok(false);
+    };
+    let alloc = rt.alloc();
+    let bytes = filled(alloc, lines, CURSOR)?;
+    let start = Instant::now(rt)?;
+    let is_read = read_skeleton(alloc, bytes.as_slice()).is_ok();
+    let micros = start.elapsed(rt)?.as_micros();
+    println!(rt; "{name}: skeleton {is_read} in {micros} microseconds")?;
+    Ok(true)
+}
+
 fn main(rt: HostRuntime) -> io::Result<()> {
     let alloc = rt.alloc();
     let Some(name) = env::args(&rt)?.nth(1) else {
         println!(rt;
-            "lex-short-tokens lex-comment lex-elements lex-quotes lex-escaped-names lex-escapes read-elements read-short-lines read-texts read-escapes read-namespaces atoms alike pool-mixed pool-choice pool-group"
+            "lex-short-tokens lex-comment lex-elements lex-quotes lex-escaped-names lex-escapes parse-choice parse-group parse-definitions parse-declarations parse-annotations read-elements read-short-lines read-texts read-escapes read-namespaces atoms alike pool-mixed pool-choice pool-group"
         )?;
         return Ok(());
     };
@@ -176,12 +228,7 @@ fn main(rt: HostRuntime) -> io::Result<()> {
         println!(rt; "{name}: {count} tokens in {micros} microseconds")?;
         return Ok(());
     }
-    if let Some(lines) = lines_of(name.as_str()) {
-        let bytes = filled(alloc, lines, CURSOR)?;
-        let start = Instant::now(&rt)?;
-        let is_read = read_skeleton(alloc, bytes.as_slice()).is_ok();
-        let micros = start.elapsed(&rt)?.as_micros();
-        println!(rt; "{name}: skeleton {is_read} in {micros} microseconds")?;
+    if time_parser(&rt, name.as_str())? || time_reader(&rt, name.as_str())? {
         return Ok(());
     }
     if time_pool(&rt, name.as_str())? {
