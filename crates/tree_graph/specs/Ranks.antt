@@ -1,0 +1,10 @@
+-- Tokens in the order of their numbers.
+use Rattle.std.specs.Prelude.{◌≡◌, ℕ, ◌<◌, List, length, Some, slice_get, slice_index}
+use Rattle.tree_graph.specs.Numbers.{number_at}
+
+-- Each token, its place and its position, stands at its number, and there are no others.
+pub record AreRanks (places : List ℕ) (ranks : List (ℕ × ℕ)) : Type 0 where
+  pub each : length ranks ≡ length places
+  pub within : (r : ℕ) (e : ℕ × ℕ) → slice_get ranks r ≡ Some e → (e.1 < length places) × (e.0 ≡ slice_index places e.1)
+  pub there : (k : ℕ) → k < length places → slice_get ranks (number_at places k) ≡ Some (slice_index places k, k)
+  pub apart : (r k : ℕ) → slice_get ranks r ≡ Some (slice_index places k, k) → r ≡ number_at places k
