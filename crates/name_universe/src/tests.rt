@@ -67,17 +67,48 @@ fn overlaps(rt: HostRuntime) -> Result<(), Fail> {
     Ok(())
 }
 
+/// Whether the list of the class has this name at the position, of this origin.
+fn has(
+    alloc: Global,
+    kind: &str,
+    position: usize,
+    ns: &str,
+    local: &str,
+    origin: Origin,
+) -> Result<bool, Fail> {
+    let names = names_of(alloc, kind)?;
+    let name = name(alloc, ns, local)?;
+    Ok(is_at(&names, position, &name, origin))
+}
+
+/// The position of what stands for the name in the list of `* - a`.
+fn stands_at(alloc: Global, ns: &str, local: &str) -> Result<usize, Fail> {
+    let names = names_of(alloc, "* - a")?;
+    let name = name(alloc, ns, local)?;
+    Ok(names.stands_for(&name))
+}
+
 #[test]
 fn lists(rt: HostRuntime) -> Result<(), Fail> {
-    let alloc = rt.alloc();
-    let names = names_of(alloc, "* - a")?;
-    assert!(rt; names.list().len() == 3);
-    assert!(rt; is_at(&names, 0, &name(alloc, "", "a")?, Origin::Mentioned));
-    assert!(rt; is_at(&names, 1, &name(alloc, "", "x")?, Origin::FreshLocal));
-    assert!(rt; is_at(&names, 2, &name(alloc, "urn:x", "x")?, Origin::FreshSpace));
-    assert!(rt; names.stands_for(&name(alloc, "", "b")?) == 1);
-    assert!(rt; names.stands_for(&name(alloc, "u", "a")?) == 2);
-    let names = names_of(alloc, "x")?;
-    assert!(rt; is_at(&names, 1, &name(alloc, "", "x1")?, Origin::FreshLocal));
+    let rows = [
+        ("* - a", 0, "", "a", Origin::Mentioned),
+        ("* - a", 1, "", "x", Origin::FreshLocal),
+        ("* - a", 2, "urn:x", "x", Origin::FreshSpace),
+        ("x", 1, "", "x1", Origin::FreshLocal),
+    ];
+    for (kind, position, ns, local, origin) in rows {
+        let holds = has(rt.alloc(), kind, position, ns, local, origin)?;
+        assert!(rt; holds);
+    }
+    Ok(())
+}
+
+#[test]
+fn standing(rt: HostRuntime) -> Result<(), Fail> {
+    let rows = [("", "b", 1), ("u", "a", 2)];
+    for (ns, local, position) in rows {
+        let at = stands_at(rt.alloc(), ns, local)?;
+        assert!(rt; at == position);
+    }
     Ok(())
 }
