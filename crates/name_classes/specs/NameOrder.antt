@@ -1,5 +1,6 @@
 -- The order of names is by their parts, and tells names apart.
-use Rattle.std.proofs.Common.{◌≡◌, ℕ, suc, ◌<◌, ◌&&◌, arith, List, [], ◌∷◌, ◌++◌, refl, sym, ◌∙◌, ap, append_assoc, append-nil}
+use Rattle.std.proofs.Common.{◌≡◌, ℕ, suc, ◌<◌, ◌&&◌, arith, List, [], ◌∷◌, ◌++◌, refl, sym, ◌∙◌, ap, append_assoc, append-nil, IsTrue, true≢false}
+use Rattle.std.specs.Hash as fed
 use Rattle.std.specs.declared.cmp.Ordering.{Ordering}
 use Rattle.std.specs.declared.cmp.Ordering.TheVariants.{Less, Equal, Greater}
 use Rattle.std.specs.Ordering.{nat_cmp, ordering_then, is_eq, eq_by_cmp, MatchOrdering}
@@ -8,6 +9,7 @@ use Rattle.std.proofs.lemmas.Cmp.{ranked}
 use Rattle.std.specs.Cmp.Lexicographic.{slice_cmp}
 use Rattle.std.proofs.lemmas.Map.Text.{is_eq-slice_cmp}
 use Rattle.rng_model.specs.Texts.{Text}
+use Rattle.rng_model.proofs.Orders.{name_cmp-same}
 use Rattle.rng_model.specs.Names.{Name, text_key, name_key, name_cmp, same_name}
 
 pub then_then : (o p q : Ordering) → ordering_then (ordering_then o p) q ≡ ordering_then o (ordering_then p q)
@@ -65,3 +67,15 @@ both_equal Greater p = refl
 -- equal names are those that the order doesn't tell apart
 pub ties : (m n : Name) → same_name m n ≡ eq_by_cmp name_cmp m n
 ties m n = sym (ap is_eq (by_parts m n) ∙ both_equal (slice_cmp nat_cmp m.ns n.ns) (slice_cmp nat_cmp m.local n.local) ∙ (λ i. is_eq-slice_cmp m.ns n.ns i && is_eq-slice_cmp m.local n.local i))
+
+pub equal_is : (o : Ordering) → IsTrue (is_eq o) → o ≡ Equal
+equal_is Less h = absurd (true≢false (sym h))
+equal_is Equal h = refl
+equal_is Greater h = absurd (true≢false (sym h))
+
+-- what hashing a name feeds
+abbrev pub name_input : Name → fed.HashWrites
+name_input n = fed.str n.ns ++ fed.str n.local
+
+pub alike_names : (m n : Name) → IsTrue (same_name m n) → name_input m ≡ name_input n
+alike_names m n h = ap name_input (name_cmp-same m n (equal_is (name_cmp m n) (sym (ties m n) ∙ h)))

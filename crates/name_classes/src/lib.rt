@@ -4,9 +4,11 @@
 
 mod class;
 mod name;
+mod part;
 
 pub use class::NameClass;
 pub use name::{Name, NotNcName};
+pub use part::{Part, Sample};
 pub use text_atoms::{is_name_char, is_name_start};
 
 #[cfg(test)]

@@ -5,10 +5,11 @@ ghost use Rattle.std.specs.Cmp.{partial_order_from_agreeing_total};
 ghost use Rattle.std.specs.Cmp.Lexicographic.{on_texts};
 ghost use Rattle.std.specs.Cmp.Rules.{comparing};
 ghost use Rattle.rng_model.specs.Names.{IsName, is_ncname, name_cmp, name_key, same_name};
-ghost use Rattle.name_classes.specs.NameOrder.{ties};
+ghost use Rattle.name_classes.specs.NameOrder.{ties, name_input, alike_names};
 
 use std::alloc::{AllocError, Global};
 use std::cmp::Ordering;
+use std::hash::{Hash, Hasher};
 use std::marker::Model;
 use text_atoms::{Text, is_ncname};
 use thiserror::Error;
@@ -90,6 +91,17 @@ impl PartialEq for Name {
 
 impl Eq for Name {
     ghost laws = { Prim.search (comparing, rules) };
+}
+
+impl Hash for Name {
+    ghost hash_input = { name_input };
+
+    ghost respects_eq = { alike_names };
+
+    fn hash<H: Hasher>(&self, state: &mut H) {
+        self.ns.hash(state);
+        self.local.hash(state);
+    }
 }
 
 impl PartialOrd for Name {

@@ -15,18 +15,30 @@ fn name(alloc: Global, ns: &str, local: &str) -> Result<Name, Fail> {
 
 /// A class of the kind: with the name in its except, or with the name beside any other.
 fn class(alloc: Global, kind: &str, ns: &str, local: &str) -> Result<NameClass, Fail> {
-    let named = NameClass::One(name(alloc, ns, local)?);
+    let named = NameClass::one(alloc, name(alloc, ns, local)?)?;
     Ok(match kind {
-        "any" => NameClass::Any(None),
-        "any except" => NameClass::Any(Some(Box::new(alloc, named)?)),
-        "namespace" => NameClass::Namespace(text(alloc, ns)?, None),
-        "namespace except" => NameClass::Namespace(text(alloc, ns)?, Some(Box::new(alloc, named)?)),
+        "any" => NameClass::any(alloc)?,
+        "any except" => NameClass::any_except(named)?,
+        "namespace" => NameClass::namespace(alloc, text(alloc, ns)?)?,
+        "namespace except" => NameClass::namespace_except(text(alloc, ns)?, named)?,
         "one" => named,
-        _ => NameClass::Choice(
-            Box::new(alloc, named)?,
-            Box::new(alloc, NameClass::Any(None))?,
-        ),
+        _ => NameClass::choice(named, NameClass::any(alloc)?)?,
     })
+}
+
+/// The choice of the names, nested to the left.
+fn choice(alloc: Global, locals: &[&str]) -> Result<Option<NameClass>, Fail> {
+    let mut members = Vec::new(alloc);
+    for local in locals {
+        members.push(NameClass::one(alloc, name(alloc, "u", local)?)?)?;
+    }
+    Ok(NameClass::choice_of(alloc, members)?)
+}
+
+/// How many parts the choice has, and whether the name is in it.
+fn choice_has(alloc: Global, locals: &[&str], local: &str) -> Result<Option<(usize, bool)>, Fail> {
+    let name = name(alloc, "u", local)?;
+    Ok(choice(alloc, locals)?.map(|class| (class.parts().len(), class.contains(&name))))
 }
 
 fn is_taken(alloc: Global, local: &str) -> Result<bool, Fail> {
@@ -105,5 +117,17 @@ fn classes(rt: HostRuntime) -> Result<(), Fail> {
     for (ns, local, is_in) in [("u", "a", false), ("u", "b", true), ("v", "b", false)] {
         assert_eq!(rt; is_member(alloc, ns, local)?, is_in);
     }
+    Ok(())
+}
+
+#[test]
+fn choices(rt: HostRuntime) -> Result<(), Fail> {
+    let alloc = rt.alloc();
+    assert_eq!(rt; choice_has(alloc, &[], "a")?, None);
+    assert_eq!(rt; choice_has(alloc, &["a"], "b")?, Some((1, false)));
+    let all = ["a", "b", "c"];
+    assert_eq!(rt; choice_has(alloc, &all, "a")?, Some((5, true)));
+    assert_eq!(rt; choice_has(alloc, &all, "c")?, Some((5, true)));
+    assert_eq!(rt; choice_has(alloc, &all, "d")?, Some((5, false)));
     Ok(())
 }
