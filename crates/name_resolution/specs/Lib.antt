@@ -5,4 +5,3 @@ pub mod Bindings
 pub mod Places
 pub mod Files
 pub mod ClassPlaces
-pub mod Choices

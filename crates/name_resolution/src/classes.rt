@@ -5,8 +5,7 @@ ghost use Rattle.rng_model.specs.Names.{is_ncname};
 ghost use Rattle.name_classes.specs.Views.{class_of as class_value};
 ghost use Rattle.grammar_laws.specs.Trees.{classes_of as listed};
 ghost use Rattle.schema_tree.specs.Trees.{class_of as tree_class};
-ghost use Rattle.simple_form_laws.specs.ClassForms.{class_of, classes_of, either_of, named, namespace_except_of, nested_left, unprefixed};
-ghost use Rattle.name_resolution.specs.Choices.{with_member};
+ghost use Rattle.simple_form_laws.specs.ClassForms.{class_of, classes_of, named, namespace_except_of, nested_left, unprefixed};
 ghost use Rattle.name_resolution.specs.NcNames.{HasNcNames, HaveNcNames};
 ghost use Rattle.name_resolution.specs.Owners.{use_of};
 
@@ -37,7 +36,7 @@ fn one(alloc: Global, namespace: &str, local: &Text) -> Result<NameClass, AllocE
     let namespace = text(alloc, namespace)?;
     let local = local.copy(alloc)?;
     match Name::new(namespace, local) {
-        Ok(name) => Ok(NameClass::One(name)),
+        Ok(name) => NameClass::one(alloc, name),
         Err(_) => unreachable!(),
     }
 }
@@ -62,13 +61,15 @@ fn all_names(alloc: Global, namespace: Option<&str>) -> Result<Option<NameClass>
     ensures { IfOk result (λ c. option_map class_value c ≡ option_map simple.namespace (option_map (λ u. u.now) namespace.entry)) }
 {
     match namespace {
-        Some(namespace) => Ok(Some(NameClass::Namespace(text(alloc, namespace)?, None))),
+        Some(namespace) => {
+            let namespace = text(alloc, namespace)?;
+            Ok(Some(NameClass::namespace(alloc, namespace)?))
+        }
         None => Ok(None),
     }
 }
 
 // All names of a namespace but those of a class, where there are both.
-#[tactic(auto, using(crate::proofs::Simple::namespace_box))]
 fn namespace_except(
     alloc: Global,
     namespace: Option<&str>,
@@ -80,55 +81,16 @@ fn namespace_except(
         return Ok(None);
     };
     let namespace = text(alloc, namespace)?;
-    let except = Box::new(alloc, except)?;
-    Ok(Some(NameClass::Namespace(namespace, Some(except))))
+    Ok(Some(NameClass::namespace_except(namespace, except)?))
 }
 
 // Any name but those of a class, where there is one.
-#[tactic(auto, using(crate::proofs::Simple::any_box))]
-fn any_except(alloc: Global, except: Option<NameClass>) -> Result<Option<NameClass>, AllocError>
+fn any_except(except: Option<NameClass>) -> Result<Option<NameClass>, AllocError>
     ensures { IfOk result (λ c. option_map class_value c ≡ option_map simple.any_except (option_map class_value except)) }
 {
     match except {
-        Some(except) => {
-            let except = Box::new(alloc, except)?;
-            Ok(Some(NameClass::Any(Some(except))))
-        }
+        Some(except) => Ok(Some(NameClass::any_except(except)?)),
         None => Ok(None),
-    }
-}
-
-// The choice of two classes, where there are both.
-fn either(
-    alloc: Global,
-    left: Option<NameClass>,
-    right: Option<NameClass>,
-) -> Result<Option<NameClass>, AllocError>
-    ensures { IfOk result (λ c. option_map class_value c ≡ either_of (option_map class_value left) (option_map class_value right)) }
-{
-    match (left, right) {
-        (Some(left), Some(right)) => {
-            let left = Box::new(alloc, left)?;
-            let right = Box::new(alloc, right)?;
-            Ok(Some(NameClass::Choice(left, right)))
-        }
-        _ => Ok(None),
-    }
-}
-
-// The choice of so many members, with one member more.
-fn with_member(
-    alloc: Global,
-    number: usize,
-    made: Option<NameClass>,
-    next: Option<NameClass>,
-) -> Result<Option<NameClass>, AllocError>
-    ensures { IfOk result (λ c. option_map class_value c ≡ with_member number (option_map class_value made) (option_map class_value next)) }
-{
-    if number == 0 {
-        Ok(next)
-    } else {
-        either(alloc, made, next)
     }
 }
 
@@ -143,8 +105,8 @@ impl Namespaces<'_> {
         }
     }
 
-    /// The class with its names resolved; none where a prefix in it isn't bound. It recurses as deep as the class nests, and a choice nests to
-    /// the left.
+    /// The class with its names resolved; none where a prefix in it isn't bound. It recurses as deep as the class nests, and a choice
+    /// is nested to the left.
     #[cycle(class)]
     pub fn class(
         &self,
@@ -165,9 +127,9 @@ impl Namespaces<'_> {
             Class::Any { except, .. } => match except {
                 Some(except) => {
                     let except = self.class(alloc, owner, except.get())?;
-                    any_except(alloc, except)
+                    any_except(except)
                 }
-                None => Ok(Some(NameClass::Any(None))),
+                None => Ok(Some(NameClass::any(alloc)?)),
             },
             Class::Namespace { prefix, except, at } => {
                 let namespace = self.namespace(prefix.as_str(), *at);
@@ -194,11 +156,13 @@ impl Namespaces<'_> {
         requires { HaveNcNames (listed (map tree_class members.now)) }
         ensures { IfOk result (λ c. option_map class_value c ≡ nested_left (classes_of self.now (use_of owner) (listed (map tree_class members.now)))) }
     {
-        let mut made = None;
-        for (number, member) in members.iter().enumerate() {
-            let next = self.class(alloc, owner, member)?;
-            made = with_member(alloc, number, made, next)?;
+        let mut made = Vec::new(alloc);
+        for member in members {
+            let Some(next) = self.class(alloc, owner, member)? else {
+                return Ok(None);
+            };
+            made.push(next)?;
         }
-        Ok(made)
+        NameClass::choice_of(alloc, made)
     }
 }

@@ -1,4 +1,4 @@
-use Rattle.std.proofs.Common.{◌≡◌, ap, arith, rules, List, ℕ, ◌∙◌, Option, option_map, subst}
+use Rattle.std.proofs.Common.{◌≡◌, ap, rules, List, ℕ, ◌∙◌, Option, option_map, subst, sym}
 use Rattle.std.specs.Prelude.{IfOk}
 use denote.Param.Weighed.{at_most}
 use Rattle.rng_model.specs.Classes as simple
@@ -8,7 +8,7 @@ use Rattle.simple_form_laws.specs.ClassForms.{named, namespace_except_of}
 use Rattle.simple_form_laws.specs.Prefixes.{namespace_of}
 use Rattle.name_resolution.specs.Owners.{use_of}
 use Rattle.name_resolution.proofs.Folds.{class_prefixed, namespace_is, namespace_alone_is}
-use Rattle.name_resolution.proofs.Simple.{choice_step, named_at}
+use Rattle.name_resolution.proofs.Simple.{made_more, member_none, choice_all, named_at}
 use Rattle.name_resolution.proofs.namespaces.Namespaces.+class.Goals as goal
 
 pub class-returns-in-Prefixed : goal.class-returns-in-Prefixed
@@ -32,12 +32,21 @@ class-returns-in-None-except t c =
 
 pub choice-class-requires : goal.choice-class-requires
 choice-class-requires t c = (
-  search (rules, at_most, c.index-members-number.is),
-  named_at tree_class c.args.members.now c.loop-number.number c.index-members-number.result (omega arith) c.index-members-number.is c.requires,
+  search (rules, at_most, c.member-item.is),
+  named_at tree_class c.args.members.now c.loop-member.member-index c.member-item.result c.loop-member-test.true c.member-item.is c.requires,
 )
 
-pub choice-loop-number-preserved : goal.choice-loop-number-preserved
-choice-loop-number-preserved t c =
-    choice_step c.args.self.now (use_of c.args.owner) tree_class c.args.members.now c.loop-number.number c.index-members-number.result
-    (option_map class_value c.loop-number.made) (option_map class_value c.in_ok-next.next) (option_map class_value c.in_ok-made.made)
-    (omega arith) c.index-members-number.is c.loop-number.invariant c.in_ok-next.ensures c.in_ok-made.ensures
+pub choice-loop-member-preserved : goal.choice-loop-member-preserved
+choice-loop-member-preserved t c =
+    made_more c.args.self.now (use_of c.args.owner) tree_class c.args.members.now c.loop-member.member-index c.member-item.result c.loop-member.made.items _ c.in-Some.next
+    c.loop-member-test.true c.member-item.is c.loop-member.invariant (sym (ap (option_map class_value) c.in-Some.is) ∙ c.in_ok-next.ensures) c.in_ok-push.ensures.items
+
+pub choice-returns : goal.choice-returns
+choice-returns t c =
+    subst (λ (o : Option simple.Class). IfOk c.choice_of.result (λ k. option_map class_value k ≡ o))
+    (choice_all c.args.self.now (use_of c.args.owner) tree_class c.args.members.now c.loop-member.member-index c.loop-member.made.items c.loop-member-test.false c.loop-member.invariant) c.choice_of.ensures
+
+pub choice-returns-in_default : goal.choice-returns-in_default
+choice-returns-in_default t c =
+    member_none c.args.self.now (use_of c.args.owner) tree_class c.args.members.now c.loop-member.member-index c.member-item.result
+    c.loop-member-test.true c.member-item.is (sym (ap (option_map class_value) c.in_default.is) ∙ c.in_ok-next.ensures)
