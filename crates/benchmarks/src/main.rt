@@ -29,6 +29,9 @@ const CALLS: usize = 200_000;
 /// The attributes that are joined to a group.
 const ATTRIBUTES: u32 = 1_000;
 
+/// The names in the choice of an attribute's name class.
+const NAMES: u32 = 300_000;
+
 /// What the schema of a benchmark of the lexer is filled with.
 fn piece_of(name: &str) -> Option<&'static str> {
     match name {
@@ -107,7 +110,10 @@ fn call(
     match number % 8 {
         0 => pool.reference(number),
         1 => pool.value(Kind::Token, format!(in alloc; "{number}")?.as_str()),
-        2 => pool.attribute(&NameClass::Any(None), last),
+        2 => {
+            let class = NameClass::any(alloc)?;
+            pool.attribute(&class, last)
+        }
         3 => pool.one_or_more(last),
         4 => pool.choice(last, text),
         5 => pool.group(last, last),
@@ -148,8 +154,38 @@ fn group(alloc: Global, pool: &mut Pool) -> Result<(), AllocError> {
             return Ok(());
         };
         let text = pool.any_text();
-        let attribute = pool.attribute(&NameClass::One(name), text)?;
+        let class = NameClass::one(alloc, name)?;
+        let attribute = pool.attribute(&class, text)?;
         others = pool.group(others, attribute)?;
+    }
+    Ok(())
+}
+
+/// The class of a name without a namespace, by its number.
+fn numbered_class(alloc: Global, number: u32) -> Result<Option<NameClass>, AllocError> {
+    let local = format!(in alloc; "a{number}")?;
+    let name = Name::new(
+        Text::from_string(String::new(alloc)),
+        Text::from_string(local),
+    );
+    match name {
+        Ok(name) => Ok(Some(NameClass::one(alloc, name)?)),
+        Err(_) => Ok(None),
+    }
+}
+
+/// An attribute whose name class is a choice of many names, made twice.
+fn names(alloc: Global, pool: &mut Pool) -> Result<(), AllocError> {
+    let mut members = Vec::new(alloc);
+    for number in 0..NAMES {
+        if let Some(class) = numbered_class(alloc, number)? {
+            members.push(class)?;
+        }
+    }
+    if let Some(class) = NameClass::choice_of(alloc, members)? {
+        let text = pool.any_text();
+        pool.attribute(&class, text)?;
+        pool.attribute(&class, text)?;
     }
     Ok(())
 }
@@ -163,6 +199,7 @@ fn time_pool(rt: &HostRuntime, name: &str) -> io::Result<bool> {
         "pool-mixed" => mixed(alloc, &mut pool)?,
         "pool-choice" => choice(alloc, &mut pool)?,
         "pool-group" => group(alloc, &mut pool)?,
+        "pool-names" => names(alloc, &mut pool)?,
         _ => return Ok(false),
     }
     let micros = start.elapsed(rt)?.as_micros();
@@ -213,7 +250,7 @@ fn main(rt: HostRuntime) -> io::Result<()> {
     let alloc = rt.alloc();
     let Some(name) = env::args(&rt)?.nth(1) else {
         println!(rt;
-            "lex-short-tokens lex-comment lex-elements lex-quotes lex-escaped-names lex-escapes parse-choice parse-group parse-definitions parse-declarations parse-annotations read-elements read-short-lines read-texts read-escapes read-namespaces atoms alike pool-mixed pool-choice pool-group"
+            "lex-short-tokens lex-comment lex-elements lex-quotes lex-escaped-names lex-escapes parse-choice parse-group parse-definitions parse-declarations parse-annotations read-elements read-short-lines read-texts read-escapes read-namespaces atoms alike pool-mixed pool-choice pool-group pool-names"
         )?;
         return Ok(());
     };

@@ -105,7 +105,8 @@ fn universe(alloc: Global) -> Result<Universe, Fail> {
     let pool = Pool::new(alloc)?;
     let content = pool.empty();
     let mut elements = Definitions::new(alloc);
-    elements.push(NameClass::One(name(alloc, "", "a")?), content)?;
+    let class = NameClass::one(alloc, name(alloc, "", "a")?)?;
+    elements.push(class, content)?;
     let schema = Schema::new(pool, content, elements);
     Ok(Universe::of(alloc, &schema, 1)?)
 }

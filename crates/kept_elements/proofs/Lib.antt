@@ -11,3 +11,4 @@ pub mod Deep
 pub mod Remaking
 pub mod Assembled
 pub mod TooDeep
+pub mod Levels

@@ -1,8 +1,11 @@
 // Whether something in the schema is deeper than 1,024 levels.
-ghost use Rattle.std.specs.Prelude.{◌≡◌, ℕ, ◌<◌, Some, length, slice_get, Contains, IsTrue};
+ghost use Rattle.std.specs.Prelude.{◌≡◌, ℕ, ◌<◌, ◌≤◌, ◌++◌, List, Some, length, slice_get, Contains, IsTrue, MatchOption};
 ghost use Rattle.rng_model.specs.Depths.{class_depth};
 ghost use Rattle.name_classes.specs.Views.{class_of};
+ghost use Rattle.rng_model.specs.Classes.{Class as ClassValue};
 ghost use Rattle.name_classes.specs.declared.class.NameClass.{NameClass as Class};
+ghost use Rattle.name_classes.specs.declared.part.Part.{Part as Listed};
+ghost use Rattle.name_classes.specs.Parts.{parts_of};
 ghost use Rattle.pattern_intern.specs.Stored.{count, tree_at};
 ghost use Rattle.pattern_intern.specs.declared.id.PatternId.{PatternId as Id};
 ghost use Rattle.kept_elements.specs.Marking.{AreWanted, IsMarked};
@@ -10,7 +13,7 @@ ghost use Rattle.kept_elements.specs.Outcomes.{AreKept, IsDeep, IsDeepAttribute,
 ghost use Rattle.kept_elements.specs.Wanted.{HasContent, IsReady};
 
 use crate::element::{content_form, element_class, form_at};
-use name_classes::NameClass;
+use name_classes::{NameClass, Part};
 use pattern_forms::Forms;
 use pattern_intern::{Node, PatternId, Pool};
 use schema_graph::Graph;
@@ -18,24 +21,30 @@ use schema_graph::Graph;
 /// The levels that a pattern or a name class may have.
 const MAX_DEPTH: usize = 1024;
 
-// Whether the class has more levels than that. It looks no deeper.
+// The parts behind the class that the parts begin with; none where that class has more levels. It looks no deeper.
+fn behind_class(parts: &[Part], levels: usize) -> Option<&[Part]>
+    ensures { (c : ClassValue) (more : List Listed) → parts.now ≡ parts_of c ++ more → MatchOption result (levels < class_depth c) (λ rest. (rest.now ≡ more) × (class_depth c ≤ levels)) }
+{
+    if levels == 0 {
+        return None;
+    }
+    let (part, rest) = parts.split_first()?;
+    if part.is_choice() {
+        let rest = behind_class(rest, levels - 1)?;
+        behind_class(rest, levels - 1)
+    } else if part.excepts() {
+        behind_class(rest, levels - 1)
+    } else {
+        Some(rest)
+    }
+}
+
+// Whether the class has more levels than that.
 fn is_deeper(class: &NameClass, levels: usize) -> bool
     ensures deeper { IsTrue result → levels < class_depth (class_of class.now) }
     ensures others { levels < class_depth (class_of class.now) → IsTrue result }
 {
-    if levels == 0 {
-        return true;
-    }
-    match class {
-        NameClass::Any(None) => false,
-        NameClass::Any(Some(except)) => is_deeper(except, levels - 1),
-        NameClass::Namespace(_, None) => false,
-        NameClass::Namespace(_, Some(except)) => is_deeper(except, levels - 1),
-        NameClass::One(_) => false,
-        NameClass::Choice(left, right) => {
-            is_deeper(left, levels - 1) || is_deeper(right, levels - 1)
-        }
-    }
+    behind_class(class.parts(), levels).is_none()
 }
 
 // Whether the element's name class or its content is too deep.

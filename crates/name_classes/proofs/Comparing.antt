@@ -4,6 +4,10 @@ use Rattle.std.specs.Prelude.{flat_map}
 use Rattle.std.proofs.lemmas.Grind.{flat_map-append}
 use Rattle.std.specs.Ordering.{nat_cmp, ordering_then}
 use Rattle.std.specs.Cmp.Lexicographic.{slice_cmp}
+use Rattle.std.specs.declared.cmp.Ordering.{Ordering}
+use Rattle.std.specs.declared.cmp.Ordering.TheVariants.{Less, Equal, Greater}
+use Rattle.std.proofs.lemmas.Map.Lookups.{exact_bytes}
+use Rattle.rng_model.proofs.Keys.{class_key-free}
 use Rattle.rng_model.specs.Names as names
 use Rattle.rng_model.specs.Names.{text_key, name_key}
 use Rattle.rng_model.specs.Texts as model
@@ -83,3 +87,35 @@ by_list a b = sym ((λ i. slice_cmp nat_cmp (key_of a i) (key_of b i)) ∙ liste
 
 pub compared : (a b : Class) (ps qs : List Part) → ps ≡ parts_of a → qs ≡ parts_of b → slice_cmp cmp-value.it ps qs ≡ class_cmp a b
 compared a b ps qs e f = (λ i. slice_cmp cmp-value.it (e i) (f i)) ∙ by_list a b
+
+-- no list goes on from another
+abbrev AreFree : List ℕ → List ℕ → Type 0
+AreFree u v = (x y : List ℕ) → u ++ x ≡ v ++ y → u ≡ v
+
+nat_same : (a b : ℕ) → nat_cmp a b ≡ Equal → a ≡ b
+nat_same a b e = first (exact_bytes (a ∷ []) (b ∷ []) (ap (λ o. ordering_then o Equal) e))
+  where
+    first : a ∷ [] ≡ b ∷ [] → a ≡ b
+    first h = cc
+
+then_by : (a b : ℕ) (u v x y : List ℕ) (o : Ordering) → nat_cmp a b ≡ o → (o ≡ Equal → slice_cmp nat_cmp (u ++ x) (v ++ y) ≡ ordering_then (slice_cmp nat_cmp u v) (slice_cmp nat_cmp x y)) →
+    ordering_then o (slice_cmp nat_cmp (u ++ x) (v ++ y)) ≡ ordering_then (ordering_then o (slice_cmp nat_cmp u v)) (slice_cmp nat_cmp x y)
+then_by a b u v x y Less e h = refl
+then_by a b u v x y Equal e h = h refl
+then_by a b u v x y Greater e h = refl
+
+-- two lists of which neither goes on from the other, whatever follows
+pub cmp-append : (u v x y : List ℕ) → AreFree u v → slice_cmp nat_cmp (u ++ x) (v ++ y) ≡ ordering_then (slice_cmp nat_cmp u v) (slice_cmp nat_cmp x y)
+cmp-append [] [] x y f = refl
+cmp-append [] (b ∷ v) x y f = let e = f (b ∷ v) [] (sym (append-nil (b ∷ v))) in absurd (cc)
+cmp-append (a ∷ u) [] x y f = let e = f [] (a ∷ u) (append-nil (a ∷ u)) in absurd (cc)
+cmp-append (a ∷ u) (b ∷ v) x y f =
+    then_by a b u v x y (nat_cmp a b) refl
+    (λ e. cmp-append u v x y (λ k l g. rest (f k l (let s = nat_same a b e in (λ i. s i ∷ g i)))))
+  where
+    rest : a ∷ u ≡ b ∷ v → u ≡ v
+    rest h = cc
+
+-- classes by their lists, whatever follows
+pub class_keys : (a b : Class) (x y : List ℕ) → slice_cmp nat_cmp (class_key a ++ x) (class_key b ++ y) ≡ ordering_then (class_cmp a b) (slice_cmp nat_cmp x y)
+class_keys a b x y = cmp-append (class_key a) (class_key b) x y (λ k l e. ap class_key ((class_key-free a b k l e).0))

@@ -19,13 +19,13 @@ of_name n (namespace_except u c) = ap (λ b. in_class n.now (namespace u) && not
 of_name n (one m) = refl
 of_name n (either a b) = λ i. of_name n a i || of_name n b i
 
-heads : {X : Type 0} (x y : X) (xs ys : List X) → x ∷ xs ≡ y ∷ ys → (x ≡ y) × (xs ≡ ys)
+pub heads : {X : Type 0} (x y : X) (xs ys : List X) → x ∷ xs ≡ y ∷ ys → (x ≡ y) × (xs ≡ ys)
 heads x y xs ys e = (cc, cc)
 
-no : {A : Type 0} (p q : Part) (f : Part → Bool) → p ≡ q → f p ≡ true → f q ≡ false → A
+pub no : {A : Type 0} (p q : Part) (f : Part → Bool) → p ≡ q → f p ≡ true → f q ≡ false → A
 no p q f e t s = absurd (true≢false (sym t ∙ ap f e ∙ s))
 
-on : {A : Type 0} (p q : Part) (f : Part → Bool) → p ≡ q → f p ≡ false → f q ≡ true → A
+pub on : {A : Type 0} (p q : Part) (f : Part → Bool) → p ≡ q → f p ≡ false → f q ≡ true → A
 on p q f e t s = absurd (true≢false (sym s ∙ sym (ap f e) ∙ t))
 
 -- a part in front of an except

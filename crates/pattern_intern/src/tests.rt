@@ -46,7 +46,8 @@ fn make(pool: &mut Pool, made: &[PatternId], call: Call) -> Result<PatternId, Al
         }
         Call::Attribute(content) => {
             let content = part(pool, made, content);
-            pool.attribute(&NameClass::Any(None), content)
+            let class = NameClass::any(pool.allocator())?;
+            pool.attribute(&class, content)
         }
         Call::OneOrMore(repeated) => {
             let repeated = part(pool, made, repeated);
@@ -248,7 +249,8 @@ fn one_element(alloc: Global) -> Result<Schema, AllocError> {
     let content = number(&mut pool)?;
     let start = pool.reference(0)?;
     let mut elements = Definitions::new(alloc);
-    elements.push(NameClass::Any(None), content)?;
+    let class = NameClass::any(alloc)?;
+    elements.push(class, content)?;
     Ok(Schema::new(pool, start, elements))
 }
 
