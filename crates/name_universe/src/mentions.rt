@@ -4,9 +4,10 @@ ghost use Rattle.rng_model.specs.Texts.{Text as TextValue};
 ghost use Rattle.rng_model.specs.Names.{Name as NameValue};
 ghost use Rattle.name_classes.specs.Views.{class_of};
 ghost use Rattle.universe_laws.specs.Overlaps.{names_in, spaces_in};
+ghost use Rattle.name_universe.specs.PartNames.{part_names, part_spaces};
 ghost use Rattle.name_universe.specs.Sets.{Adds};
 
-use name_classes::{Name, NameClass};
+use name_classes::{Name, NameClass, Part};
 use std::alloc::{AllocError, Global};
 use std::collections::BTreeSet;
 use text_atoms::Text;
@@ -31,8 +32,30 @@ fn add_space(alloc: Global, spaces: &mut BTreeSet<Text>, ns: &Text) -> Result<()
     Ok(())
 }
 
+// Adds the name that stands in the part.
+#[tactic(auto, using(crate::proofs::NameSets::adds_nil))]
+fn add_part_name(alloc: Global, names: &mut BTreeSet<Name>, part: &Part) -> Result<(), AllocError>
+    ensures { OnOk result (Adds NameValue names.old.keys names.new.keys (part_names part.now)) }
+{
+    match part {
+        Part::One(name) => add_name(alloc, names, name),
+        Part::Any { .. } | Part::Namespace { .. } | Part::Choice => Ok(()),
+    }
+}
+
+// Adds the namespace that stands in the part.
+#[tactic(auto, using(crate::proofs::NameSets::adds_nil))]
+fn add_part_space(alloc: Global, spaces: &mut BTreeSet<Text>, part: &Part) -> Result<(), AllocError>
+    ensures { OnOk result (Adds TextValue spaces.old.keys spaces.new.keys (part_spaces part.now)) }
+{
+    match part {
+        Part::Namespace { ns, .. } => add_space(alloc, spaces, ns),
+        Part::One(name) => add_space(alloc, spaces, name.ns()),
+        Part::Any { .. } | Part::Choice => Ok(()),
+    }
+}
+
 /// Adds the names that stand in a class, inside excepts too.
-#[tactic(auto, using(crate::proofs::NameSets::adds_nil, crate::proofs::NameSets::adds_append))]
 pub(crate) fn add_names(
     alloc: Global,
     names: &mut BTreeSet<Name>,
@@ -40,22 +63,13 @@ pub(crate) fn add_names(
 ) -> Result<(), AllocError>
     ensures { OnOk result (Adds NameValue names.old.keys names.new.keys (names_in (class_of class.now))) }
 {
-    match class {
-        NameClass::Any(None) | NameClass::Namespace(_, None) => Ok(()),
-        NameClass::Any(Some(except)) | NameClass::Namespace(_, Some(except)) => {
-            add_names(alloc, names, except)
-        }
-        NameClass::One(name) => add_name(alloc, names, name),
-        NameClass::Choice(left, right) => {
-            add_names(alloc, names, left)?;
-            add_names(alloc, names, right)?;
-            Ok(())
-        }
+    for part in class.parts() {
+        add_part_name(alloc, names, part)?;
     }
+    Ok(())
 }
 
 /// Adds the namespaces of these names, and those that a namespace class names.
-#[tactic(auto, using(crate::proofs::NameSets::adds_nil, crate::proofs::NameSets::adds_append))]
 pub(crate) fn add_spaces(
     alloc: Global,
     spaces: &mut BTreeSet<Text>,
@@ -63,24 +77,8 @@ pub(crate) fn add_spaces(
 ) -> Result<(), AllocError>
     ensures { OnOk result (Adds TextValue spaces.old.keys spaces.new.keys (spaces_in (class_of class.now))) }
 {
-    match class {
-        NameClass::Any(None) => Ok(()),
-        NameClass::Any(Some(except)) => add_spaces(alloc, spaces, except),
-        NameClass::Namespace(ns, except) => {
-            add_space(alloc, spaces, ns)?;
-            match except {
-                None => Ok(()),
-                Some(except) => {
-                    add_spaces(alloc, spaces, except)?;
-                    Ok(())
-                }
-            }
-        }
-        NameClass::One(name) => add_space(alloc, spaces, name.ns()),
-        NameClass::Choice(left, right) => {
-            add_spaces(alloc, spaces, left)?;
-            add_spaces(alloc, spaces, right)?;
-            Ok(())
-        }
+    for part in class.parts() {
+        add_part_space(alloc, spaces, part)?;
     }
+    Ok(())
 }

@@ -6,8 +6,9 @@ ghost use Rattle.rng_model.specs.Classes.{in_class, Overlap};
 ghost use Rattle.name_classes.specs.Views.{class_of};
 ghost use Rattle.universe_laws.specs.Overlaps.{names_in, spaces_in, fresh_in, fresh_in_both, stranger_in, in_both, overlaps};
 ghost use Rattle.name_universe.specs.Named.{IsNamed};
+ghost use Rattle.name_universe.specs.PartNames.{part_names, part_spaces, IsNamedPart};
 
-use name_classes::{Name, NameClass};
+use name_classes::{Name, NameClass, Part, Sample};
 use text_atoms::Text;
 
 // A name is one.
@@ -24,88 +25,91 @@ pub(crate) fn is_text(text: &Text)
     let _ = text.as_str();
 }
 
+// What stands in the part is a name or a text.
+fn is_named_part(part: &Part)
+    ensures { IsNamedPart part.now }
+{
+    match part {
+        Part::Any { .. } | Part::Choice => {}
+        Part::Namespace { ns, .. } => is_text(ns),
+        Part::One(name) => is_name(name),
+    }
+}
+
 // What stands in the class are names and texts.
 fn is_named(class: &NameClass)
     ensures { IsNamed (class_of class.now) }
 {
-    match class {
-        NameClass::Any(None) => {}
-        NameClass::Any(Some(except)) => is_named(except),
-        NameClass::Namespace(ns, None) => is_text(ns),
-        NameClass::Namespace(ns, Some(except)) => {
-            is_text(ns);
-            is_named(except);
-        }
-        NameClass::One(name) => is_name(name),
-        NameClass::Choice(left, right) => {
-            is_named(left);
-            is_named(right);
-        }
+    for part in class.parts() {
+        is_named_part(part);
     }
 }
 
 // Whether the names of the namespace that don't stand in the class are in it.
+#[tactic(auto, using(crate::proofs::ClassParts::of_fresh))]
 fn has_fresh(class: &NameClass, ns: &Text) -> bool
     ensures { result ≡ fresh_in ns.now (class_of class.now) }
 {
-    match class {
-        NameClass::Any(None) => true,
-        NameClass::Any(Some(except)) => !has_fresh(except, ns),
-        NameClass::Namespace(own, None) => ns.as_str() == own.as_str(),
-        NameClass::Namespace(own, Some(except)) => {
-            ns.as_str() == own.as_str() && !has_fresh(except, ns)
-        }
-        NameClass::One(_) => false,
-        NameClass::Choice(left, right) => has_fresh(left, ns) || has_fresh(right, ns),
-    }
+    class.takes(Sample::Fresh(ns))
 }
 
 // Whether the names are in the class whose namespace doesn't stand in it.
+#[tactic(auto, using(crate::proofs::ClassParts::of_strangers))]
 fn has_strangers(class: &NameClass) -> bool
     ensures { result ≡ stranger_in (class_of class.now) }
 {
-    match class {
-        NameClass::Any(None) => true,
-        NameClass::Any(Some(except)) => !has_strangers(except),
-        NameClass::Namespace(_, _) | NameClass::One(_) => false,
-        NameClass::Choice(left, right) => has_strangers(left) || has_strangers(right),
+    class.takes(Sample::Stranger)
+}
+
+// Whether the name in the part is in both.
+fn is_common_name(part: &Part, a: &NameClass, b: &NameClass) -> bool
+    ensures { result ≡ list_any (in_both (class_of a.now) (class_of b.now)) (part_names part.now) }
+{
+    match part {
+        Part::One(name) => a.contains(name) && b.contains(name),
+        Part::Any { .. } | Part::Namespace { .. } | Part::Choice => false,
     }
+}
+
+// Whether a name that stands in one of the parts is in both.
+fn parts_name_a_common(parts: &[Part], a: &NameClass, b: &NameClass) -> bool
+    ensures { result ≡ list_any (λ p. list_any (in_both (class_of a.now) (class_of b.now)) (part_names p)) parts.now }
+{
+    parts.iter().any(|part| is_common_name(part, a, b))
 }
 
 // Whether a name that stands in the class is in both.
-#[tactic(auto, using(crate::proofs::Parts::any_append))]
+#[tactic(auto, using(crate::proofs::ClassParts::any_name))]
 fn names_a_common(class: &NameClass, a: &NameClass, b: &NameClass) -> bool
     ensures { result ≡ list_any (in_both (class_of a.now) (class_of b.now)) (names_in (class_of class.now)) }
 {
-    match class {
-        NameClass::Any(None) | NameClass::Namespace(_, None) => false,
-        NameClass::Any(Some(except)) | NameClass::Namespace(_, Some(except)) => {
-            names_a_common(except, a, b)
-        }
-        NameClass::One(name) => a.contains(name) && b.contains(name),
-        NameClass::Choice(left, right) => {
-            names_a_common(left, a, b) || names_a_common(right, a, b)
-        }
+    parts_name_a_common(class.parts(), a, b)
+}
+
+// Whether a fresh name of the namespace in the part is in both.
+fn is_common_space(part: &Part, a: &NameClass, b: &NameClass) -> bool
+    ensures { result ≡ list_any (fresh_in_both (class_of a.now) (class_of b.now)) (part_spaces part.now) }
+{
+    match part {
+        Part::Namespace { ns, .. } => has_fresh(a, ns) && has_fresh(b, ns),
+        Part::One(name) => has_fresh(a, name.ns()) && has_fresh(b, name.ns()),
+        Part::Any { .. } | Part::Choice => false,
     }
 }
 
+// Whether a fresh name of a namespace that stands in one of the parts is in both.
+fn parts_space_a_common(parts: &[Part], a: &NameClass, b: &NameClass) -> bool
+    ensures { result ≡ list_any (λ p. list_any (fresh_in_both (class_of a.now) (class_of b.now)) (part_spaces p)) parts.now }
+{
+    parts.iter().any(|part| is_common_space(part, a, b))
+}
+
 // Whether a fresh name of a namespace that stands in the class is in both.
-#[tactic(auto, using(crate::proofs::Parts::any_append))]
+#[tactic(auto, using(crate::proofs::ClassParts::any_space))]
 fn spaces_a_common(class: &NameClass, a: &NameClass, b: &NameClass) -> bool
     ensures { result ≡ list_any (fresh_in_both (class_of a.now) (class_of b.now)) (spaces_in (class_of class.now)) }
 {
-    match class {
-        NameClass::Any(None) => false,
-        NameClass::Any(Some(except)) => spaces_a_common(except, a, b),
-        NameClass::Namespace(ns, None) => has_fresh(a, ns) && has_fresh(b, ns),
-        NameClass::Namespace(ns, Some(except)) => {
-            (has_fresh(a, ns) && has_fresh(b, ns)) || spaces_a_common(except, a, b)
-        }
-        NameClass::One(name) => has_fresh(a, name.ns()) && has_fresh(b, name.ns()),
-        NameClass::Choice(left, right) => {
-            spaces_a_common(left, a, b) || spaces_a_common(right, a, b)
-        }
-    }
+    parts_space_a_common(class.parts(), a, b)
 }
 
 // Whether a name that stands in one of the classes is in both.

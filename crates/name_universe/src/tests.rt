@@ -19,13 +19,13 @@ fn name(alloc: Global, ns: &str, local: &str) -> Result<Name, Fail> {
 
 /// A class of the kind, with `a` as its name or in its except.
 fn class(alloc: Global, kind: &str) -> Result<NameClass, Fail> {
-    let named = NameClass::One(name(alloc, "", "a")?);
+    let named = NameClass::one(alloc, name(alloc, "", "a")?)?;
     Ok(match kind {
-        "*" => NameClass::Any(None),
-        "* - a" => NameClass::Any(Some(Box::new(alloc, named)?)),
-        "u:*" => NameClass::Namespace(text(alloc, "u")?, None),
-        "v:*" => NameClass::Namespace(text(alloc, "v")?, None),
-        "x" => NameClass::One(name(alloc, "", "x")?),
+        "*" => NameClass::any(alloc)?,
+        "* - a" => NameClass::any_except(named)?,
+        "u:*" => NameClass::namespace(alloc, text(alloc, "u")?)?,
+        "v:*" => NameClass::namespace(alloc, text(alloc, "v")?)?,
+        "x" => NameClass::one(alloc, name(alloc, "", "x")?)?,
         _ => named,
     })
 }
