@@ -1,5 +1,5 @@
 // The lines of codes.
-ghost use Rattle.std.specs.Prelude.{◌≡◌, [], OnOk, OnErr};
+ghost use Rattle.std.specs.Prelude.{◌≡◌, ◌↔◌, [], IsTrue, OnOk, OnErr};
 ghost use Rattle.rng_model.specs.Codes.{IsInRange};
 ghost use Rattle.skeleton.specs.Views.{code_of};
 ghost use Rattle.event_lines.specs.Pieces.{Sends, Fails, progress};
@@ -11,6 +11,25 @@ use name_universe::Universe;
 use outside::{Failed, Sink};
 use skeleton::Code;
 use text_atoms::Atoms;
+
+fn is_in_range(code: Code, universe: &Universe, atoms: &Atoms) -> bool
+    ensures { IsTrue result ↔ IsInRange (lists_of universe.now atoms.now) (code_of code) }
+{
+    match code {
+        Code::Opening(name) => name < universe.elements().len(),
+        Code::Attr(name, text) => name < universe.attributes().len() && text < atoms.len(),
+        Code::Chars(text) => text < atoms.len(),
+        Code::Body | Code::Closing => true,
+    }
+}
+
+/// Whether each code's positions are below the lengths of the lists of names and atoms, which is the condition of `write_codes` and
+/// `measure`.
+pub fn are_in_range(codes: &[Code], universe: &Universe, atoms: &Atoms) -> bool
+    ensures { IsTrue result ↔ AreInRange (lists_of universe.now atoms.now) codes.now }
+{
+    codes.iter().all(|code| is_in_range(*code, universe, atoms))
+}
 
 /// Puts the line of the event that a code is by position.
 fn put_code<O: Sink>(

@@ -10,7 +10,9 @@ mod measuring;
 mod pieces;
 mod writing;
 
+pub use codes::are_in_range;
 pub use counted::Measure;
+pub use line_buffer::LineBuffer;
 pub use line_reader::{LineFault, read_skeleton};
 pub use measuring::measure;
 pub use writing::{WriteFault, write_codes, write_name_line, write_skeleton, write_text_line};

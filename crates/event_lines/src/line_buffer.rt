@@ -6,9 +6,9 @@ use std::marker::Model;
 /// The most bytes of a line that is handed over as one piece, its line end included.
 const CAPACITY: usize = 32_768;
 
-/// A line, or a part of a longer one, that is to be handed over as one piece.
+/// A line, or a part of a longer one, that is to be handed over as one piece. It holds 32,768 bytes.
 #[derive(Drop)]
-pub(crate) struct LineBuffer {
+pub struct LineBuffer {
     bytes: [u8; 32_768],
     len: usize,
 }
@@ -25,7 +25,7 @@ impl Model for LineBuffer {
 
 impl LineBuffer {
     /// An empty buffer.
-    pub(crate) fn new() -> Self
+    pub fn new() -> Self
         ensures { result ≡ [] }
     {
         LineBuffer {

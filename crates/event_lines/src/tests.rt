@@ -1,17 +1,13 @@
 // The text of a skeleton, and how many pieces it is handed over in.
-ghost use Rattle.std.specs.Prelude.{IsTrue, ◌↔◌};
-ghost use Rattle.rng_model.specs.Codes.{IsInRange};
-ghost use Rattle.skeleton.specs.Views.{code_of};
-ghost use Rattle.event_lines.specs.Coded.{AreInRange, lists_of};
-
 use crate::{
-    Measure, measure, read_skeleton, write_codes, write_name_line, write_skeleton, write_text_line,
+    LineBuffer, Measure, are_in_range, measure, read_skeleton, write_codes, write_name_line,
+    write_skeleton, write_text_line,
 };
 use name_classes::{Name, NameClass};
 use name_universe::Universe;
 use outside::{Calls, MemSink};
 use pattern_intern::{Definitions, Pool, Schema};
-use skeleton::{Code, Event, Events, Skeleton};
+use skeleton::Code;
 use std::alloc::Global;
 use std::test::Fail;
 use text_atoms::{Atoms, Literals, Text, TextList};
@@ -28,63 +24,62 @@ fn name(alloc: Global, ns: &str, local: &str) -> Result<Name, Fail> {
 fn sink(alloc: Global, failing: u64, most: usize) -> Result<MemSink, Fail> {
     let mut calls = Calls::new(alloc);
     calls.push(failing)?;
-    Ok(MemSink::new(alloc, 1000, calls, most.max(1))?)
+    Ok(MemSink::new(alloc, 40_000, calls, most.max(1))?)
 }
 
-/// An element with a namespace, an attribute without one, and a text.
-fn skeleton(alloc: Global) -> Result<Option<Skeleton>, Fail> {
-    let mut list = Events::new(alloc);
-    list.push(Event::Opening(name(alloc, "a b{", "c")?))?;
-    list.push(Event::Attr(name(alloc, "", "d")?, text(alloc, "\\\n\r ")?))?;
-    list.push(Event::Body)?;
-    list.push(Event::Chars(text(alloc, "x\\y")?))?;
-    list.push(Event::Closing)?;
-    Ok(Skeleton::from_events(list).ok())
-}
-
-/// Whether the skeleton was written, and whether the bytes are those taken.
-fn written(alloc: Global, failing: u64, most: usize, bytes: &[u8]) -> Result<(bool, bool), Fail> {
+/// Whether the document with this text was written, and whether these bytes were taken.
+fn written(
+    alloc: Global,
+    text: &str,
+    failing: u64,
+    most: usize,
+    bytes: &[u8],
+) -> Result<(bool, bool), Fail> {
     let mut sink = sink(alloc, failing, most)?;
-    let done = match skeleton(alloc)? {
-        Some(skeleton) => write_skeleton(&skeleton, &mut sink).is_ok(),
-        None => false,
+    let done = match read_skeleton(alloc, text.as_bytes()) {
+        Ok(skeleton) => write_skeleton(&skeleton, &mut sink).is_ok(),
+        Err(_) => false,
     };
-    let taken = sink.taken();
-    Ok((done, taken == bytes))
+    Ok((done, sink.taken() == bytes))
+}
+
+/// Whether each text is read and written again as it is.
+fn are_kept(alloc: Global, texts: &[&str]) -> Result<bool, Fail> {
+    for text in texts {
+        if written(alloc, text, 1000, 1000, text.as_bytes())? != (true, true) {
+            return Ok(false);
+        }
+    }
+    Ok(true)
 }
 
 #[test]
 fn texts(rt: HostRuntime) -> Result<(), Fail> {
-    let alloc = rt.alloc();
-    let whole = b"({a\\sb\\{}c\nAd \\\\\\n\\r \n>\n-x\\\\y\n)\n\n".as_slice();
-    // A line is one piece, and so is the empty line.
-    assert_eq!(rt; written(alloc, 6, 1000, whole)?, (true, true));
-    assert_eq!(rt;
-        written(alloc, 5, 1000, &whole[..whole.len() - 1])?,
-        (false, true)
-    );
-    assert_eq!(rt;
-        written(alloc, 1, 1000, b"({a\\sb\\{}c\n".as_slice())?,
-        (false, true)
-    );
-    assert_eq!(rt; written(alloc, 1000, 1, whole)?, (true, true));
+    let rows = [
+        "(a\n>\n)\n\n",
+        "({a\\sb\\{}c\n>\n)\n\n",
+        "(e\nAp  a \nAq \\nb\n>\n)\n\n",
+        "({a\\sb\\{}c\nA{\\}\\\\}d \\\\\\n\\r \n>\n-x\\\\y\n(e\n>\n)\n- z\n)\n\n",
+    ];
+    assert!(rt; are_kept(rt.alloc(), &rows)?);
     Ok(())
 }
 
-/// Whether the bytes are read and written again as they are.
-fn is_kept(alloc: Global, bytes: &[u8]) -> Result<bool, Fail> {
-    let mut sink = sink(alloc, 1000, 1000)?;
-    let done = match read_skeleton(alloc, bytes) {
-        Ok(skeleton) => write_skeleton(&skeleton, &mut sink).is_ok(),
-        Err(_) => false,
-    };
-    Ok(done && sink.taken() == bytes)
-}
-
 #[test]
-fn texts_that_are_read(rt: HostRuntime) -> Result<(), Fail> {
-    let text = "({a\\sb\\{}c\nA{\\}\\\\}d \\\\\\n\\r \n>\n-x\\\\y\n(e\n>\n)\n- z\n)\n\n";
-    assert!(rt; is_kept(rt.alloc(), text.as_bytes())?);
+fn failing_writes(rt: HostRuntime) -> Result<(), Fail> {
+    let alloc = rt.alloc();
+    let text = "({a\\sb\\{}c\nAd \\\\\\n\\r \n>\n-x\\\\y\n)\n\n";
+    let whole = text.as_bytes();
+    // The number of the write that fails, counted from 0, and how many bytes a write takes. A line is one piece, and so is the empty line.
+    let rows = [
+        (6, 1000, whole, true),
+        (5, 1000, &whole[..whole.len() - 1], false),
+        (1, 1000, b"({a\\sb\\{}c\n".as_slice(), false),
+        (1000, 1, whole, true),
+    ];
+    for (failing, most, bytes, done) in rows {
+        assert!(rt; written(alloc, text, failing, most, bytes)? == (done, true));
+    }
     Ok(())
 }
 
@@ -96,6 +91,21 @@ fn lines(rt: HostRuntime) -> Result<(), Fail> {
     assert!(rt; write_text_line(b'T', &text(alloc, "a b")?, &mut sink).is_ok());
     let taken = sink.taken();
     assert!(rt; taken == b"E{u}a\nTa b\n".as_slice());
+    Ok(())
+}
+
+/// Whether a line of so many bytes is written by one call of the sink.
+fn is_one_piece(alloc: Global, len: usize) -> Result<bool, Fail> {
+    let mut sink = sink(alloc, 1, 40_000)?;
+    let text = Text::from_string("x".repeat(alloc, len.saturating_sub(2))?);
+    Ok(write_text_line(b'T', &text, &mut sink).is_ok() && sink.taken().len() == len)
+}
+
+#[test]
+fn long_lines(rt: HostRuntime) -> Result<(), Fail> {
+    for (len, expected) in [(3, true), (32_768, true), (32_769, false)] {
+        assert!(rt; is_one_piece(rt.alloc(), len)? == expected);
+    }
     Ok(())
 }
 
@@ -111,23 +121,6 @@ fn universe(alloc: Global) -> Result<Universe, Fail> {
     Ok(Universe::of(alloc, &schema, 1)?)
 }
 
-fn is_in_range(code: Code, universe: &Universe, atoms: &Atoms) -> bool
-    ensures { IsTrue result ↔ IsInRange (lists_of universe.now atoms.now) (code_of code) }
-{
-    match code {
-        Code::Opening(name) => name < universe.elements().len(),
-        Code::Attr(name, text) => name < universe.attributes().len() && text < atoms.len(),
-        Code::Chars(text) => text < atoms.len(),
-        Code::Body | Code::Closing => true,
-    }
-}
-
-fn are_in_range(codes: &[Code], universe: &Universe, atoms: &Atoms) -> bool
-    ensures { IsTrue result ↔ AreInRange (lists_of universe.now atoms.now) codes.now }
-{
-    codes.iter().all(|code| is_in_range(*code, universe, atoms))
-}
-
 /// Whether codes over these names and the text `t` are written as the bytes, and their measure.
 fn coded(alloc: Global, codes: &[Code], bytes: &[u8]) -> Result<Option<Measure>, Fail> {
     let universe = universe(alloc)?;
@@ -136,7 +129,8 @@ fn coded(alloc: Global, codes: &[Code], bytes: &[u8]) -> Result<Option<Measure>,
     if !are_in_range(codes, &universe, &atoms) {
         return Ok(None);
     }
-    let done = write_codes(codes, &universe, &atoms, &mut sink).is_ok();
+    let mut buffer = LineBuffer::new();
+    let done = write_codes(codes, &universe, &atoms, &mut buffer, &mut sink).is_ok();
     let measure = measure(codes, &universe, &atoms);
     Ok(Some(measure).filter(|_| done && sink.taken() == bytes))
 }
@@ -145,7 +139,6 @@ fn coded(alloc: Global, codes: &[Code], bytes: &[u8]) -> Result<Option<Measure>,
 fn codes(rt: HostRuntime) -> Result<(), Fail> {
     let alloc = rt.alloc();
     let bytes = b"(a\n>\n)\n\n".as_slice();
-    assert!(rt; is_kept(alloc, bytes)?);
     let one = [Code::Opening(0), Code::Body, Code::Closing];
     let measure = Measure { bytes: 8, sum: 280 };
     assert!(rt; coded(alloc, &one, bytes)? == Some(measure));

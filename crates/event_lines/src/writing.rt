@@ -39,11 +39,13 @@ pub fn write_skeleton<O: Sink>(skeleton: &Skeleton, sink: &mut O) -> Result<(), 
 }
 
 /// Appends the lines of the events that the codes are by position in the lists of names and atoms, and an empty line: where the events
-/// are a skeleton's, this is its text. It is handed over as by `write_skeleton`, and no memory is taken.
+/// are a skeleton's, this is its text. It is handed over as by `write_skeleton`, through the caller's buffer, which is made once for many
+/// calls; what it holds before a call doesn't matter. No memory is taken.
 pub fn write_codes<O: Sink>(
     codes: &[Code],
     universe: &Universe,
     atoms: &Atoms,
+    buffer: &mut LineBuffer,
     sink: &mut O,
 ) -> Result<(), WriteFault>
     requires { AreInRange (lists_of universe.now atoms.now) codes.now }
@@ -54,8 +56,8 @@ pub fn write_codes<O: Sink>(
     ensures told { is_some (O.taken sink.new) ≡ is_some (O.taken sink.old) }
     ensures cause { HasCause (O.faults sink.old) (O.faults sink.new) result }
 {
-    let mut buffer = LineBuffer::new();
-    match put_codes(&mut buffer, sink, codes, universe, atoms) {
+    buffer.clear();
+    match put_codes(buffer, sink, codes, universe, atoms) {
         Ok(()) => Ok(()),
         Err(Failed) => Err(WriteFault),
     }

@@ -5,10 +5,10 @@ use Rattle.event_lines.proofs.writing.write_codes.Goals as goal
 
 pub returns-in-Ok-clause-ok : goal.returns-in-Ok-clause-ok
 returns-in-Ok-clause-ok g c = λ es are.
-    appended (g.O.Sink.taken c.args.sink.now) c.new-buffer.result (g.O.Sink.taken c.put_codes.new.sink) c.put_codes.new.buffer _ _
-    c.new-buffer.ensures c.in-Ok.ensures.empty (codes_are (lists_of c.args.universe.now c.args.atoms.now) es c.args.codes.now are) c.in-Ok.ensures.ok.grown
+    appended (g.O.Sink.taken c.args.sink.now) c.clear.new.self (g.O.Sink.taken c.put_codes.new.sink) c.put_codes.new.buffer _ _
+    c.clear.ensures c.in-Ok.ensures.empty (codes_are (lists_of c.args.universe.now c.args.atoms.now) es c.args.codes.now are) c.in-Ok.ensures.ok.grown
 
 pub returns-in-Err-clause-err : goal.returns-in-Err-clause-err
 returns-in-Err-clause-err g c = λ es are.
-    front_appended (g.O.Sink.taken c.args.sink.now) (g.O.Sink.taken c.put_codes.new.sink) c.new-buffer.result _ _
-    c.new-buffer.ensures (codes_are (lists_of c.args.universe.now c.args.atoms.now) es c.args.codes.now are) c.in-Err.ensures.err.front
+    front_appended (g.O.Sink.taken c.args.sink.now) (g.O.Sink.taken c.put_codes.new.sink) c.clear.new.self _ _
+    c.clear.ensures (codes_are (lists_of c.args.universe.now c.args.atoms.now) es c.args.codes.now are) c.in-Err.ensures.err.front
