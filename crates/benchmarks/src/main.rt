@@ -4,6 +4,9 @@
 ghost use Rattle.std.specs.Prelude.{◌<◌, IfOk};
 ghost use Rattle.pattern_intern.specs.Stored.{count};
 
+mod documents;
+
+use documents::time_writer;
 use event_lines::read_skeleton;
 use name_classes::{Name, NameClass};
 use pattern_intern::{PatternId, Pool};
@@ -251,6 +254,7 @@ fn main(rt: HostRuntime) -> io::Result<()> {
     let Some(name) = env::args(&rt)?.nth(1) else {
         println!(rt;
             "lex-short-tokens lex-comment lex-elements lex-quotes lex-escaped-names lex-escapes parse-choice parse-group parse-definitions parse-declarations parse-annotations read-elements read-short-lines read-texts read-escapes read-namespaces atoms alike pool-mixed pool-choice pool-group pool-names"
+            "lex-short-tokens lex-comment lex-elements lex-quotes lex-escaped-names lex-escapes parse-choice parse-group parse-definitions parse-declarations parse-annotations read-elements read-short-lines read-texts read-escapes read-namespaces write-codes copy-lines atoms alike pool-mixed pool-choice pool-group"
         )?;
         return Ok(());
     };
@@ -268,7 +272,7 @@ fn main(rt: HostRuntime) -> io::Result<()> {
     if time_parser(&rt, name.as_str())? || time_reader(&rt, name.as_str())? {
         return Ok(());
     }
-    if time_pool(&rt, name.as_str())? {
+    if time_writer(&rt, name.as_str())? || time_pool(&rt, name.as_str())? {
         return Ok(());
     }
     let literals = literals(alloc)?;
