@@ -1,5 +1,6 @@
 -- Events whose lines are sent one by one.
 use Rattle.std.proofs.Common.{◌≡◌, ℕ, ◌+◌, ◌<◌, ◌≤◌, List, [], ◌∷◌, ◌++◌, length, take, drop, get_or, flat_map, append-nil, ap, sym, subst, ◌∙◌}
+use Rattle.std.specs.Prelude.{slice_get, Some}
 use Rattle.std.proofs.lemmas.List.{take-append-drop, take_more, take_all}
 use Rattle.std.proofs.lemmas.Grind.{flat_map-append}
 use Rattle.std.proofs.lemmas.Option.{get_or_from_slice_get, slice_get-get_or}
@@ -33,6 +34,15 @@ fails_item {s} {t} {u} f n es e last below is sent failed =
     sym (flat_map-append f (take (n + 1) es) (drop (n + 1) es)) ∙ ap (flat_map f) (take-append-drop (n + 1) es) in
     fails_early (flat_map f es) last
     (subst (λ z. Fails s u z) whole (fails_early (flat_map f (take (n + 1) es)) (flat_map f (drop (n + 1) es)) front))
+
+-- nothing follows the items
+pub fails_within : {s t u : Progress} {A : Type 0} (f : A → List ℕ) (n : ℕ) (es : List A) (e : A) → n < length es → e ≡ get_or es n e →
+    Sends s t (flat_map f (take n es)) → Fails t u (f e) → Fails s u (flat_map f es)
+fails_within {s} {t} {u} f n es e below is sent failed = subst (λ z. Fails s u z) (append-nil (flat_map f es)) (fails_item f n es e [] below is sent failed)
+
+-- an item that was got
+pub got_item : {A : Type 0} (es : List A) (n : ℕ) (e : A) → slice_get es n ≡ Some e → e ≡ get_or es n e
+got_item es n e got = sym (get_or_from_slice_get es n e e got)
 
 pub all_sent : {s t : Progress} {A : Type 0} (f : A → List ℕ) (n : ℕ) (es : List A) → length es ≤ n →
     Sends s t (flat_map f (take n es)) → Sends s t (flat_map f es)

@@ -8,6 +8,7 @@ mod line_buffer;
 mod lines;
 mod measuring;
 mod pieces;
+mod universe;
 mod writing;
 
 pub use codes::are_in_range;
@@ -15,6 +16,7 @@ pub use counted::Measure;
 pub use line_buffer::LineBuffer;
 pub use line_reader::{LineFault, read_skeleton};
 pub use measuring::measure;
+pub use universe::write_universe;
 pub use writing::{WriteFault, write_codes, write_name_line, write_skeleton, write_text_line};
 
 #[cfg(test)]
