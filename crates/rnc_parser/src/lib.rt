@@ -22,6 +22,3 @@ pub use patterns::{items, pattern};
 pub use prologue::declarations;
 pub use schema::file;
 pub use stop::Stop;
-
-#[cfg(test)]
-mod tests;

@@ -135,8 +135,8 @@ fn optional(alloc: Global, tokens: &mut Cursor<'_>, first: Pattern) -> Result<Pa
     ensures parsed { Parsed (part.follow ∷ []) (λ ts us p. BehindPostfix kw.question (pattern_of first) ts us (pattern_of p)) tokens.old result tokens.new }
     ensures shorter { OnOk result (length tokens.new ≤ length tokens.old) }
 {
-    follow(tokens)?;
     let inner = Boxed::new(alloc, first)?;
+    follow(tokens)?;
     Ok(Pattern::Optional(inner))
 }
 
@@ -144,8 +144,8 @@ fn zero_or_more(alloc: Global, tokens: &mut Cursor<'_>, first: Pattern) -> Resul
     ensures parsed { Parsed (part.follow ∷ []) (λ ts us p. BehindPostfix kw.star (pattern_of first) ts us (pattern_of p)) tokens.old result tokens.new }
     ensures shorter { OnOk result (length tokens.new ≤ length tokens.old) }
 {
-    follow(tokens)?;
     let inner = Boxed::new(alloc, first)?;
+    follow(tokens)?;
     Ok(Pattern::ZeroOrMore(inner))
 }
 
@@ -153,8 +153,8 @@ fn one_or_more(alloc: Global, tokens: &mut Cursor<'_>, first: Pattern) -> Result
     ensures parsed { Parsed (part.follow ∷ []) (λ ts us p. BehindPostfix kw.plus (pattern_of first) ts us (pattern_of p)) tokens.old result tokens.new }
     ensures shorter { OnOk result (length tokens.new ≤ length tokens.old) }
 {
-    follow(tokens)?;
     let inner = Boxed::new(alloc, first)?;
+    follow(tokens)?;
     Ok(Pattern::OneOrMore(inner))
 }
 
@@ -206,7 +206,6 @@ fn element(alloc: Global, tokens: &mut Cursor<'_>) -> Result<Pattern, Stop>
     let at = tokens.word(Keyword::Element)?;
     let class = class(alloc, tokens)?;
     let content = braced(alloc, tokens)?;
-    let content = Boxed::new(alloc, content)?;
     Ok(Pattern::Element { class, content, at })
 }
 
@@ -218,7 +217,6 @@ fn attribute(alloc: Global, tokens: &mut Cursor<'_>) -> Result<Pattern, Stop>
     let at = tokens.word(Keyword::Attribute)?;
     let class = class(alloc, tokens)?;
     let content = braced(alloc, tokens)?;
-    let content = Boxed::new(alloc, content)?;
     Ok(Pattern::Attribute { class, content, at })
 }
 
@@ -229,7 +227,6 @@ fn list(alloc: Global, tokens: &mut Cursor<'_>) -> Result<Pattern, Stop>
 {
     let at = tokens.word(Keyword::List)?;
     let content = braced(alloc, tokens)?;
-    let content = Boxed::new(alloc, content)?;
     Ok(Pattern::List { content, at })
 }
 
@@ -240,18 +237,18 @@ fn mixed(alloc: Global, tokens: &mut Cursor<'_>) -> Result<Pattern, Stop>
 {
     let _at = tokens.word(Keyword::Mixed)?;
     let content = braced(alloc, tokens)?;
-    let content = Boxed::new(alloc, content)?;
     Ok(Pattern::Mixed(content))
 }
 
 /// `{ PATTERN }`
 #[cycle(pattern)]
-fn braced(alloc: Global, tokens: &mut Cursor<'_>) -> Result<Pattern, Stop>
+fn braced(alloc: Global, tokens: &mut Cursor<'_>) -> Result<Boxed<Pattern>, Stop>
     ensures parsed { Parsed (part.braced ∷ []) (λ ts us p. ReadsBraced ts us (pattern_of p)) tokens.old result tokens.new }
     ensures shorter { OnOk result (length tokens.new < length tokens.old) }
 {
     let _open = tokens.symbol(Symbol::OpenBrace)?;
     let content = pattern(alloc, tokens)?;
+    let content = Boxed::new(alloc, content)?;
     let _close = tokens.symbol(Symbol::CloseBrace)?;
     Ok(content)
 }

@@ -4,7 +4,7 @@ use Rattle.token_laws.specs.Tokens.{symbol, keyword, ◌at◌}
 use Rattle.grammar_laws.specs.Trees.{items_of}
 use Rattle.grammar_laws.specs.Grammar.{ReadsBare, ReadsBareClass, ReadsClass, ReadsPattern, ReadsParticle, ReadsPrimary, ReadsItem, ReadsItems, ReadsInner, ReadsUri, ReadsParameters, ReadsBraces, ReadsInherit}
 use Rattle.grammar_laws.specs.Grammar as by
-use Rattle.rnc_parser.specs.Parts.{ReadsOpen, ReadsOperand, ReadsOneItem, ReadsNext, IsInnerItem}
+use Rattle.rnc_parser.specs.Parts.{ReadsBraced, ReadsOpen, ReadsOperand, ReadsOneItem, ReadsNext, IsInnerItem}
 use Rattle.schema_tree.specs.Trees.{pattern_of, item_of}
 use Rattle.syntax_laws.specs.Expecting.{next, first, Stands, is_symbol, declaration_move, class_move, pattern_move, item_move, next_item_move}
 use Rattle.syntax_laws.specs.Expecting as part
@@ -200,14 +200,10 @@ pub element-returns-in_err-content-clause-parsed : goal.element-returns-in_err-c
 element-returns-in_err-content-clause-parsed t c =
     passed_on c.from_residual-in_err-content.result c.from_residual-in_err-content.ensures.1 (inside (read (took begin c.in_ok-at.ensures) c.in_ok-class.ensures.parsed) c.in_err-content.ensures.parsed)
 
-pub element-returns-in_err-content-2-clause-parsed : goal.element-returns-in_err-content-2-clause-parsed
-element-returns-in_err-content-2-clause-parsed t c =
-    passed_on c.from_residual-in_err-content-2.result c.from_residual-in_err-content-2.ensures.1 no_memory
-
 pub element-returns-clause-parsed : goal.element-returns-clause-parsed
 element-returns-clause-parsed t c =
     parsed
-    (subst (ReadsBare c.args.tokens.now c.braced.new.tokens) (sym (ap (λ z. pattern_of (view.Element c.in_ok-class.class z c.in_ok-at.at)) c.in_ok-content-2.ensures ∙ fold.pattern_element c.in_ok-class.class c.in_ok-content.content c.in_ok-at.at)) (shape.element_read c.in_ok-at.ensures (made c.in_ok-class.ensures.parsed) (made c.in_ok-content.ensures.parsed)))
+    (subst (ReadsBare c.args.tokens.now c.braced.new.tokens) (sym (fold.pattern_element c.in_ok-class.class c.in_ok-content.content c.in_ok-at.at)) (shape.element_read c.in_ok-at.ensures (made c.in_ok-class.ensures.parsed) (made c.in_ok-content.ensures.parsed)))
     (read (read (took begin c.in_ok-at.ensures) c.in_ok-class.ensures.parsed) c.in_ok-content.ensures.parsed)
 
 pub attribute-returns-in_err-at-clause-parsed : goal.attribute-returns-in_err-at-clause-parsed
@@ -222,14 +218,10 @@ pub attribute-returns-in_err-content-clause-parsed : goal.attribute-returns-in_e
 attribute-returns-in_err-content-clause-parsed t c =
     passed_on c.from_residual-in_err-content.result c.from_residual-in_err-content.ensures.1 (inside (read (took begin c.in_ok-at.ensures) c.in_ok-class.ensures.parsed) c.in_err-content.ensures.parsed)
 
-pub attribute-returns-in_err-content-2-clause-parsed : goal.attribute-returns-in_err-content-2-clause-parsed
-attribute-returns-in_err-content-2-clause-parsed t c =
-    passed_on c.from_residual-in_err-content-2.result c.from_residual-in_err-content-2.ensures.1 no_memory
-
 pub attribute-returns-clause-parsed : goal.attribute-returns-clause-parsed
 attribute-returns-clause-parsed t c =
     parsed
-    (subst (ReadsBare c.args.tokens.now c.braced.new.tokens) (sym (ap (λ z. pattern_of (view.Attribute c.in_ok-class.class z c.in_ok-at.at)) c.in_ok-content-2.ensures ∙ fold.pattern_attribute c.in_ok-class.class c.in_ok-content.content c.in_ok-at.at)) (shape.attribute_read c.in_ok-at.ensures (made c.in_ok-class.ensures.parsed) (made c.in_ok-content.ensures.parsed)))
+    (subst (ReadsBare c.args.tokens.now c.braced.new.tokens) (sym (fold.pattern_attribute c.in_ok-class.class c.in_ok-content.content c.in_ok-at.at)) (shape.attribute_read c.in_ok-at.ensures (made c.in_ok-class.ensures.parsed) (made c.in_ok-content.ensures.parsed)))
     (read (read (took begin c.in_ok-at.ensures) c.in_ok-class.ensures.parsed) c.in_ok-content.ensures.parsed)
 
 pub list-returns-in_err-at-clause-parsed : goal.list-returns-in_err-at-clause-parsed
@@ -240,14 +232,10 @@ pub list-returns-in_err-content-clause-parsed : goal.list-returns-in_err-content
 list-returns-in_err-content-clause-parsed t c =
     passed_on c.from_residual-in_err-content.result c.from_residual-in_err-content.ensures.1 (inside (took begin c.in_ok-at.ensures) c.in_err-content.ensures.parsed)
 
-pub list-returns-in_err-content-2-clause-parsed : goal.list-returns-in_err-content-2-clause-parsed
-list-returns-in_err-content-2-clause-parsed t c =
-    passed_on c.from_residual-in_err-content-2.result c.from_residual-in_err-content-2.ensures.1 no_memory
-
 pub list-returns-clause-parsed : goal.list-returns-clause-parsed
 list-returns-clause-parsed t c =
     parsed
-    (subst (ReadsBare c.args.tokens.now c.braced.new.tokens) (sym (ap (λ z. pattern_of (view.List z c.in_ok-at.at)) c.in_ok-content-2.ensures ∙ fold.pattern_list c.in_ok-content.content c.in_ok-at.at)) (shape.list_read c.in_ok-at.ensures (made c.in_ok-content.ensures.parsed)))
+    (subst (ReadsBare c.args.tokens.now c.braced.new.tokens) (sym (fold.pattern_list c.in_ok-content.content c.in_ok-at.at)) (shape.list_read c.in_ok-at.ensures (made c.in_ok-content.ensures.parsed)))
     (read (took begin c.in_ok-at.ensures) c.in_ok-content.ensures.parsed)
 
 pub mixed-returns-in_err-_at-clause-parsed : goal.mixed-returns-in_err-_at-clause-parsed
@@ -258,14 +246,10 @@ pub mixed-returns-in_err-content-clause-parsed : goal.mixed-returns-in_err-conte
 mixed-returns-in_err-content-clause-parsed t c =
     passed_on c.from_residual-in_err-content.result c.from_residual-in_err-content.ensures.1 (inside (took begin c.in_ok-_at.ensures) c.in_err-content.ensures.parsed)
 
-pub mixed-returns-in_err-content-2-clause-parsed : goal.mixed-returns-in_err-content-2-clause-parsed
-mixed-returns-in_err-content-2-clause-parsed t c =
-    passed_on c.from_residual-in_err-content-2.result c.from_residual-in_err-content-2.ensures.1 no_memory
-
 pub mixed-returns-clause-parsed : goal.mixed-returns-clause-parsed
 mixed-returns-clause-parsed t c =
     parsed
-    (subst (ReadsBare c.args.tokens.now c.braced.new.tokens) (sym (ap (λ z. pattern_of (view.Mixed z)) c.in_ok-content-2.ensures ∙ fold.pattern_mixed c.in_ok-content.content)) (shape.mixed_read c.in_ok-_at.ensures (made c.in_ok-content.ensures.parsed)))
+    (subst (ReadsBare c.args.tokens.now c.braced.new.tokens) (sym (fold.pattern_mixed c.in_ok-content.content)) (shape.mixed_read c.in_ok-_at.ensures (made c.in_ok-content.ensures.parsed)))
     (read (took begin c.in_ok-_at.ensures) c.in_ok-content.ensures.parsed)
 
 pub braced-returns-in_err-_open-clause-parsed : goal.braced-returns-in_err-_open-clause-parsed
@@ -276,6 +260,10 @@ pub braced-returns-in_err-content-clause-parsed : goal.braced-returns-in_err-con
 braced-returns-in_err-content-clause-parsed t c =
     passed_on c.from_residual-in_err-content.result c.from_residual-in_err-content.ensures.1 (inside (took (turn begin refl) c.in_ok-_open.ensures) c.in_err-content.ensures.parsed)
 
+pub braced-returns-in_err-content-2-clause-parsed : goal.braced-returns-in_err-content-2-clause-parsed
+braced-returns-in_err-content-2-clause-parsed t c =
+    passed_on c.from_residual-in_err-content-2.result c.from_residual-in_err-content-2.ensures.1 no_memory
+
 pub braced-returns-in_err-_close-clause-parsed : goal.braced-returns-in_err-_close-clause-parsed
 braced-returns-in_err-_close-clause-parsed t c =
     passed_on c.from_residual-in_err-_close.result c.from_residual-in_err-_close.ensures.1 (missing _ (read (took (turn begin refl) c.in_ok-_open.ensures) c.in_ok-content.ensures.parsed) c.in_err-_close.ensures)
@@ -283,7 +271,7 @@ braced-returns-in_err-_close-clause-parsed t c =
 pub braced-returns-clause-parsed : goal.braced-returns-clause-parsed
 braced-returns-clause-parsed t c =
     parsed
-    (shape.braced_read c.in_ok-_open.ensures (made c.in_ok-content.ensures.parsed) c.in_ok-_close.ensures)
+    (subst (λ z. ReadsBraced c.args.tokens.now c.symbol-2.new.self (pattern_of z)) (sym c.in_ok-content-2.ensures) (shape.braced_read c.in_ok-_open.ensures (made c.in_ok-content.ensures.parsed) c.in_ok-_close.ensures))
     (took (read (took (turn begin refl) c.in_ok-_open.ensures) c.in_ok-content.ensures.parsed) c.in_ok-_close.ensures)
 
 pub datatype-returns-in_err-of-clause-parsed : goal.datatype-returns-in_err-of-clause-parsed

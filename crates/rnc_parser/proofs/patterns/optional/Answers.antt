@@ -12,11 +12,11 @@ use Rattle.rnc_parser.proofs.patterns.optional.Goals as goal
 
 pub returns-in_err-follow-clause-parsed : goal.returns-in_err-follow-clause-parsed
 returns-in_err-follow-clause-parsed c =
-    passed_on c.from_residual.result c.from_residual.ensures.1 (inside begin c.in_err-follow.ensures.parsed)
+    passed_on c.from_residual-in_err-follow.result c.from_residual-in_err-follow.ensures.1 (inside begin c.in_err-follow.ensures.parsed)
 
 pub returns-in_err-inner-clause-parsed : goal.returns-in_err-inner-clause-parsed
 returns-in_err-inner-clause-parsed c =
-    passed_on c.from_residual-in_err-inner.result c.from_residual-in_err-inner.ensures.1 no_memory
+    passed_on c.from_residual.result c.from_residual.ensures.1 no_memory
 
 pub returns-clause-parsed : goal.returns-clause-parsed
 returns-clause-parsed c =

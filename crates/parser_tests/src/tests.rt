@@ -1,10 +1,9 @@
 // Parts of schemas, read from the tokens of a text.
-use crate::{Cursor, ParseFault, class, declarations, file, items, parse, pattern};
 use rnc_lexer::lex;
+use rnc_parser::{Cursor, ParseFault, class, declarations, file, items, parse, pattern};
 use schema_tree::{Feature, first_reference, refused_feature};
 use sqlite_items::Items;
 use std::alloc::{AllocError, Global};
-use std::test::Fail;
 
 /// A part of a schema.
 #[derive(Clone, Copy)]
@@ -27,20 +26,33 @@ fn is_read(alloc: Global, wanted: Wanted, tokens: &mut Cursor<'_>) -> bool {
     }
 }
 
-/// Whether reading the part from the text succeeds or fails as said, with so many tokens left.
-fn ends_so(alloc: Global, wanted: Wanted, text: &str, succeeds: bool, left: usize) -> bool {
+/// Whether the part is read from the text, and how many tokens are left.
+fn reading(alloc: Global, wanted: Wanted, text: &str) -> Option<(bool, usize)> {
     match lex(alloc, text.as_bytes()) {
         Ok(tokens) => {
             let mut rest = Cursor::new(&tokens);
-            is_read(alloc, wanted, &mut rest) == succeeds && rest.left() == left
+            let is_read = is_read(alloc, wanted, &mut rest);
+            Some((is_read, rest.left()))
         }
-        Err(_) => false,
+        Err(_) => None,
     }
 }
 
+/// A part of a schema, its text, whether it is read, and how many tokens are left.
+type PartRow = (Wanted, &'static str, bool, usize);
+
+/// The first row that ends otherwise.
+fn wrong_part(alloc: Global, rows: &[PartRow]) -> Option<usize> {
+    for (i, (wanted, text, is_read, left)) in rows.iter().enumerate() {
+        if reading(alloc, *wanted, *text) != Some((*is_read, *left)) {
+            return Some(i);
+        }
+    }
+    None
+}
+
 #[test]
-fn parts(rt: HostRuntime) -> Result<(), Fail> {
-    let alloc = rt.alloc();
+fn parts(rt: HostRuntime) {
     let rows = [
         (
             Wanted::Declarations,
@@ -84,10 +96,7 @@ fn parts(rt: HostRuntime) -> Result<(), Fail> {
         (Wanted::File, "[ ] a & b | c", false, 2),
         (Wanted::File, "a = b c", false, 0),
     ];
-    for (i, (wanted, text, succeeds, left)) in rows.iter().enumerate() {
-        assert!(rt; ends_so(alloc, *wanted, *text, *succeeds, *left), "row {i}");
-    }
-    Ok(())
+    assert_eq!(rt; wrong_part(rt.alloc(), rows.as_slice()), None);
 }
 
 /// How a text ends: as a schema with a feature or without, or refused.
@@ -108,18 +117,18 @@ fn end_of(alloc: Global, text: &str) -> End {
     }
 }
 
-/// Whether each text ends as said.
-fn end_so(alloc: Global, rows: &[(&str, End)]) -> bool {
-    for (text, end) in rows {
+/// The first row whose text ends otherwise.
+fn wrong_end(alloc: Global, rows: &[(&str, End)]) -> Option<usize> {
+    for (i, (text, end)) in rows.iter().enumerate() {
         if end_of(alloc, *text) != *end {
-            return false;
+            return Some(i);
         }
     }
-    true
+    None
 }
 
 #[test]
-fn schemas(rt: HostRuntime) -> Result<(), Fail> {
+fn schemas(rt: HostRuntime) {
     let rows = [
         ("element a { empty }", End::Schema(None, None)),
         (
@@ -162,8 +171,7 @@ fn schemas(rt: HostRuntime) -> Result<(), Fail> {
             End::Schema(None, None),
         ),
     ];
-    assert!(rt; end_so(rt.alloc(), rows.as_slice()));
-    Ok(())
+    assert_eq!(rt; wrong_end(rt.alloc(), rows.as_slice()), None);
 }
 
 /// A text, and then so many parentheses.
@@ -179,8 +187,14 @@ fn nested(alloc: Global, before: &str, levels: usize) -> Result<String, AllocErr
     Ok(text)
 }
 
+/// How a text ends whose parentheses are nested so deep behind what stands before them.
+fn end_of_nested(alloc: Global, before: &str, levels: usize) -> Result<End, AllocError> {
+    let text = nested(alloc, before, levels)?;
+    Ok(end_of(alloc, text.as_str()))
+}
+
 #[test]
-fn depths(rt: HostRuntime) -> Result<(), Fail> {
+fn depths(rt: HostRuntime) -> Result<(), AllocError> {
     let rows = [
         ("", 128, End::Schema(None, None)),
         ("", 129, End::Refused(ParseFault::TooDeep { at: 128 })),
@@ -189,11 +203,8 @@ fn depths(rt: HostRuntime) -> Result<(), Fail> {
         ("}", 129, End::Refused(ParseFault::Syntax { at: 0 })),
     ];
     for (before, levels, end) in rows {
-        let text = nested(rt.alloc(), before, levels)?;
-        assert!(rt;
-            end_of(rt.alloc(), text.as_str()) == end,
-            "{before:?} {levels}"
-        );
+        let found = end_of_nested(rt.alloc(), before, levels)?;
+        assert!(rt; found == end, "{before:?} {levels}");
     }
     Ok(())
 }
