@@ -18,7 +18,6 @@ use Rattle.syntax_laws.specs.declared.forms.ItemForm.{ItemForm}
 use Rattle.rnc_parser.proofs.Chains as chain
 use Rattle.rnc_parser.proofs.Chains.{moved}
 use Rattle.rnc_lexer.specs.Views.{symbol_of}
-use Rattle.schema_tree.specs.declared.tree.Item.TheViews as view
 use Rattle.rnc_parser.proofs.patterns.+pattern.Goals as goal
 
 pub pattern-returns-in_err-first-clause-parsed : goal.pattern-returns-in_err-first-clause-parsed
