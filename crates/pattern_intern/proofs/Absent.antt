@@ -107,7 +107,7 @@ both_true : (a b : Bool) → (a && b) ≡ true → (a ≡ true) × (b ≡ true)
 both_true true b h = (refl, h)
 both_true false b h = absurd (true≢false (sym h))
 
-nat_tells : (m n : ℕ) → nat_eq m n ≡ true → m ≡ n
+pub nat_tells : (m n : ℕ) → nat_eq m n ≡ true → m ≡ n
 nat_tells m n h = grind (arith, h)
 
 two_tell : (f : PatternId → PatternId → Node) (a b c d : PatternId) → (nat_eq a.0 c.0 && nat_eq b.0 d.0) ≡ true → f a b ≡ f c d

@@ -55,7 +55,7 @@ pub record IsMerging (s : Stored) (p q : Pattern) (taken : List PatternId) (a b 
 pub merging_start : (s : Stored) (a b : ℕ) → a < count s → b < count s → IsMerging s (tree_at s a) (tree_at s b) [] a b
 merging_start s a b l m = record { within = record { each = tt }; left_in = l; right_in = m; list = refl }
 
-all_push : {X : Type 0} (K : X → Type 0) (xs : List X) (x : X) → AllByRecursion K xs → K x → AllByRecursion K (xs ++ x ∷ [])
+pub all_push : {X : Type 0} (K : X → Type 0) (xs : List X) (x : X) → AllByRecursion K xs → K x → AllByRecursion K (xs ++ x ∷ [])
 all_push K [] x h k = (k, tt)
 all_push K (y ∷ xs) x h k = (h.0, all_push K xs x h.1 k)
 

@@ -6,6 +6,9 @@ mod Searching
 mod Adding
 mod Starting
 mod Merging
+mod Lists
+mod Together
+mod Collected
 mod Least
 mod Comparing
 mod Describing

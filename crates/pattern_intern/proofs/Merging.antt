@@ -9,10 +9,10 @@ use Rattle.rng_model.specs.Constructors.{members, of_members, with_member, ascen
 use Rattle.rng_model.proofs.Orders.{pattern_order, pattern_cmp-same}
 use Rattle.pattern_intern.specs.Ordered.{IsMember, IsBelow, Ascends, IsOrdered, MergesLaw, NothingsLaw, OrderedLaw}
 
-over : (p q : Pattern) → pattern_cmp p q ≡ Greater → pattern_cmp q p ≡ Less
+pub over : (p q : Pattern) → pattern_cmp p q ≡ Greater → pattern_cmp q p ≡ Less
 over p q e = pattern_order.antisymm q p ∙ ap ordering_reverse e
 
-under : (p q : Pattern) → pattern_cmp p q ≡ Less → pattern_cmp q p ≡ Greater
+pub under : (p q : Pattern) → pattern_cmp p q ≡ Less → pattern_cmp q p ≡ Greater
 under p q e = pattern_order.antisymm q p ∙ ap ordering_reverse e
 
 module _ (K : Pattern → Type 0) where
@@ -70,7 +70,7 @@ least : (ps qs : List Pattern) (q : Pattern) → IsBelow q ps → IsBelow q qs �
 least [] qs q h k = first_in q (ascending qs) (all_ascending (λ y. pattern_cmp q y ≡ Less) qs k)
 least (p ∷ ps) qs q h k = ap (with_member p) (least ps qs q h.1 k) ∙ later_in p q (ascending (ps ++ qs)) h.0
 
-alone_in : (p : Pattern) → IsMember p → members p ≡ p ∷ []
+pub alone_in : (p : Pattern) → IsMember p → members p ≡ p ∷ []
 alone_in not_allowed h = absurd h
 alone_in (choice p q) h = absurd h
 alone_in p h = refl

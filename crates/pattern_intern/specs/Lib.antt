@@ -5,6 +5,7 @@ pub mod Facts
 pub mod Trees
 pub mod Interned
 pub mod Members
+pub mod Gathered
 pub mod Marks
 pub mod Comparisons
 pub mod Steps

@@ -15,7 +15,7 @@ use std::cmp::Ordering;
 
 impl Pool {
     // The first member and the others, none for notAllowed.
-    fn split(&self, id: PatternId) -> Option<(PatternId, PatternId)>
+    pub(crate) fn split(&self, id: PatternId) -> Option<(PatternId, PatternId)>
         requires { id.0 < count self.now }
         ensures ordered { IsOrdered (tree_at self.now id.0) }
         ensures none { IfNone result (tree_at self.now id.0 ≡ pattern.not_allowed) }
@@ -96,7 +96,7 @@ impl Pool {
 
     // The choice of ascending members and the members of a pattern, from the greatest on. After want of memory some of its last
     // members may be made.
-    fn join_all(
+    pub(crate) fn join_all(
         &mut self,
         taken: Vec<PatternId>,
         others: PatternId,
@@ -119,7 +119,7 @@ impl Pool {
     }
 
     // The choice of both. After want of memory some of its last members may be made.
-    fn merge(&mut self, a: PatternId, b: PatternId) -> Result<PatternId, AllocError>
+    pub(crate) fn merge(&mut self, a: PatternId, b: PatternId) -> Result<PatternId, AllocError>
         requires left { a.0 < count self.old }
         requires right { b.0 < count self.old }
         ensures within { IfOk result (λ id. id.0 < count self.new) }

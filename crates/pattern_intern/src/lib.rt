@@ -8,6 +8,7 @@ mod choice;
 mod compare;
 mod constructors;
 mod facts;
+mod gathering;
 mod id;
 mod intern;
 mod literals;

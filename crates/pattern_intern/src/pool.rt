@@ -275,7 +275,7 @@ impl Pool {
     }
 
     /// The allocator that the pool takes its memory from.
-    pub(crate) fn allocator(&self) -> Global {
+    pub fn allocator(&self) -> Global {
         *self.nodes.allocator()
     }
 }

@@ -179,6 +179,56 @@ fn choices(rt: HostRuntime) -> Result<(), AllocError> {
     Ok(())
 }
 
+/// The choice of the patterns made at four places.
+fn choice_of_four(
+    pool: &mut Pool,
+    made: &[PatternId],
+    places: [usize; 4],
+) -> Result<PatternId, AllocError> {
+    let a = part(pool, made, places[0]);
+    let b = part(pool, made, places[1]);
+    let c = part(pool, made, places[2]);
+    let d = part(pool, made, places[3]);
+    pool.choice_of_all(&[a, b, c, d])
+}
+
+/// Whether each choice of four is the pattern made at a place.
+fn are_choices(
+    pool: &mut Pool,
+    made: &[PatternId],
+    rows: &[([usize; 4], usize)],
+) -> Result<bool, AllocError> {
+    for (places, whole) in rows {
+        if choice_of_four(pool, made, *places)? != part(pool, made, *whole) {
+            return Ok(false);
+        }
+    }
+    Ok(true)
+}
+
+#[test]
+fn choices_of_many(rt: HostRuntime) -> Result<(), AllocError> {
+    let mut pool = Pool::new(rt.alloc())?;
+    let calls = [
+        Call::Reference(0),
+        Call::Choice(2, 3),
+        Call::Choice(1, 4),
+        Call::Choice(1, 2),
+    ];
+    let made = make_all(rt.alloc(), &mut pool, &calls)?;
+    let rows = [
+        ([3, 1, 2, 1], 5),
+        ([4, 0, 1, 3], 5),
+        ([6, 4, 6, 5], 5),
+        ([2, 3, 3, 2], 4),
+        ([2, 2, 0, 2], 2),
+        ([0, 0, 0, 0], 0),
+    ];
+    assert!(rt; are_choices(&mut pool, made.as_slice(), &rows)?);
+    assert!(rt; pool.len() == 7);
+    Ok(())
+}
+
 #[test]
 fn order(rt: HostRuntime) -> Result<(), AllocError> {
     let mut pool = Pool::new(rt.alloc())?;
