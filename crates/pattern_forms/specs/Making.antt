@@ -7,6 +7,7 @@ use Rattle.name_classes.specs.Views.{class_of}
 use Rattle.simple_form_laws.specs.Meaning.{Connective, Group, Choice, Interleave}
 use Rattle.schema_graph.specs.declared.node.Node.{Node}
 use Rattle.schema_graph.specs.declared.graph.Graph.{Graph}
+use Rattle.pattern_intern.specs.Members.{AreIn, trees_at}
 use Rattle.pattern_intern.specs.Stored.{Stored, count, tree_at, Extends}
 use Rattle.pattern_intern.specs.Schemas.{AreRefsBelow}
 use Rattle.pattern_intern.specs.declared.id.PatternId.{PatternId}
@@ -56,7 +57,6 @@ made_of g at (Node.DataType k (Some j)) = data_of (kind_of k) (at j)
 
 abbrev pub connective_of : Joint → Connective
 connective_of Joint.Group = Group
-connective_of Joint.Choice = Choice
 connective_of Joint.Interleave = Interleave
 
 -- the node's numbers are the graph's
@@ -125,6 +125,11 @@ pub record IsNested (c : Connective) (forms : List (Option PatternId)) (members 
   pub kept : Extends old new
   pub refs : (n : ℕ) → AreRefsBelow n old → AreRefsBelow n new
   pub others : AreWithin new forms
+
+-- the forms of the first k members
+pub record AreForms (pool : Stored) (forms : List (Option PatternId)) (members : List ℕ) (k : ℕ) (parts : List PatternId) : Type 0 where
+  pub within : AreIn pool parts
+  pub trees : trees_at pool parts ≡ map (form_at pool forms) (take k members)
 
 -- in the midst of the walk from a node
 pub record IsWalk (g : Graph) (start : ℕ) (old new : Making) (path : List Frame) : Type 0 where

@@ -8,7 +8,7 @@ ghost use Rattle.pattern_forms.specs.Formed.{IsMany};
 ghost use Rattle.pattern_forms.specs.Making.{AreMade, AreWithin, IsInGraph, IsMaking, IsPath, IsReady, IsUnmade, first_of, form_at, made_of};
 ghost use Rattle.pattern_forms.specs.Reaching.{definition_at};
 
-use crate::joining::{Joint, form, nested};
+use crate::joining::{Joint, chosen, form, nested};
 use pattern_intern::{PatternId, Pool};
 use schema_graph::{Graph, Node};
 use std::alloc::{AllocError, Global};
@@ -122,7 +122,7 @@ pub(crate) fn make(
             pool.attribute(class, part)
         }
         Node::Group(members) => nested(pool, forms, members.as_slice(), Joint::Group),
-        Node::Choice(members) => nested(pool, forms, members.as_slice(), Joint::Choice),
+        Node::Choice(members) => chosen(pool, forms, members.as_slice()),
         Node::Interleave(members) => nested(pool, forms, members.as_slice(), Joint::Interleave),
         Node::Optional(part) => {
             let part = form(pool, forms, *part);
