@@ -145,6 +145,17 @@ fn choice(alloc: Global, pool: &mut Pool) -> Result<(), AllocError> {
     Ok(())
 }
 
+/// A choice of literals, made at once.
+fn choice_of_all(alloc: Global, pool: &mut Pool) -> Result<(), AllocError> {
+    let mut members = Vec::new(alloc);
+    for number in 0..LITERALS {
+        let text = format!(in alloc; "{:010}", number * 7 % LITERALS)?;
+        members.push(pool.value(Kind::Token, text.as_str())?)?;
+    }
+    pool.choice_of_all(members.as_slice())?;
+    Ok(())
+}
+
 /// A group of attributes, joined from the left.
 fn group(alloc: Global, pool: &mut Pool) -> Result<(), AllocError> {
     let mut others = pool.empty();
@@ -201,6 +212,7 @@ fn time_pool(rt: &HostRuntime, name: &str) -> io::Result<bool> {
     match name {
         "pool-mixed" => mixed(alloc, &mut pool)?,
         "pool-choice" => choice(alloc, &mut pool)?,
+        "pool-choice-of-all" => choice_of_all(alloc, &mut pool)?,
         "pool-group" => group(alloc, &mut pool)?,
         "pool-names" => names(alloc, &mut pool)?,
         _ => return Ok(false),
@@ -255,6 +267,7 @@ fn main(rt: HostRuntime) -> io::Result<()> {
         println!(rt;
             "lex-short-tokens lex-comment lex-elements lex-quotes lex-escaped-names lex-escapes parse-choice parse-group parse-definitions parse-declarations parse-annotations read-elements read-short-lines read-texts read-escapes read-namespaces atoms alike pool-mixed pool-choice pool-group pool-names"
             "lex-short-tokens lex-comment lex-elements lex-quotes lex-escaped-names lex-escapes parse-choice parse-group parse-definitions parse-declarations parse-annotations read-elements read-short-lines read-texts read-escapes read-namespaces write-codes copy-lines atoms alike pool-mixed pool-choice pool-group"
+            "lex-short-tokens lex-comment lex-elements lex-quotes lex-escaped-names lex-escapes parse-choice parse-group parse-definitions parse-declarations parse-annotations read-elements read-short-lines read-texts read-escapes read-namespaces atoms alike pool-mixed pool-choice pool-choice-of-all pool-group"
         )?;
         return Ok(());
     };
