@@ -2,6 +2,7 @@ pub mod Tables
 pub mod LeastPlaces
 pub mod Loops
 pub mod Sums
+pub mod NextFiles
 pub mod Again
 pub mod Within
 pub mod ClassParts

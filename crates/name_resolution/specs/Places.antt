@@ -1,5 +1,5 @@
 -- The places of the faults of declarations, over all files.
-use Rattle.std.specs.Prelude.{ℕ, suc, ◌+◌, ◌≤◌, ◌||◌, List, [], ◌∷◌, flat_map, All}
+use Rattle.std.specs.Prelude.{◌≡◌, ℕ, suc, ◌+◌, ◌≤◌, ◌<◌, ◌||◌, List, [], ◌∷◌, length, take, flat_map, All}
 use Rattle.std.specs.List.{list_any}
 use Rattle.rng_model.specs.Texts.{Text}
 use Rattle.grammar_laws.specs.Trees.{Declaration}
@@ -11,6 +11,10 @@ use Rattle.simple_form_laws.specs.Faults.{in_files, later_places, place_if, bind
 abbrev pub places_of : List SchemaFile → ℕ
 places_of [] = 0
 places_of (f ∷ fs) = suc f.length + places_of fs
+
+-- the first k files, and there are more
+abbrev pub IsNextFile : List SchemaFile → List SchemaFile → ℕ → Type 0
+IsNextFile some all k = (some ≡ take k all) × (k < length all)
 
 -- the file's declarations stand in it
 abbrev pub IsWithin : SchemaFile → Type 0

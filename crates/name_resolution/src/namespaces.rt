@@ -1,15 +1,16 @@
 // The declarations of all files.
-ghost use Rattle.std.specs.Prelude.{◌≡◌, ◌<◌, ◌≤◌, ◌+◌, ◌^◌, ◌∷◌, ◌++◌, [], suc, All, MatchOption, OnOk, OnErr, map, option_map};
+ghost use Rattle.std.specs.Prelude.{◌≡◌, ◌<◌, ◌≤◌, ◌+◌, ◌^◌, ◌∷◌, ◌++◌, [], suc, take, All, MatchOption, IfOk, OnOk, OnErr, map, option_map};
 ghost use Rattle.grammar_laws.specs.Files.{SchemaFile};
+ghost use Rattle.schema_tree.specs.Files.{AreFilesWithin};
 ghost use Rattle.schema_tree.specs.Trees.{declaration_of, type_of};
 ghost use Rattle.simple_form_laws.specs.Faults.{declaration_place};
 ghost use Rattle.simple_form_laws.specs.Prefixes.{default_of, file_at, kind_of, library_table, look_up, namespace_of, no_file};
 ghost use Rattle.text_atoms.specs.Kinds.{kind_of as kind_value};
-ghost use Rattle.name_resolution.specs.Places.{places_of};
+ghost use Rattle.name_resolution.specs.Places.{places_of, IsNextFile};
 
 use crate::file::{FileNames, XML_URI};
 use crate::kinds::{XSD_URI, library_kind};
-use schema_tree::{Declaration, TypeName};
+use schema_tree::{Declaration, Full, TypeName};
 use std::alloc::{AllocError, Global};
 use std::marker::Model;
 use text_atoms::{Kind, Text};
@@ -60,6 +61,32 @@ impl<'a> Namespaces<'a> {
         let file = FileNames::new(alloc, name, length, inherited, declarations)?;
         self.files.push(file)?;
         Ok(())
+    }
+
+    /// The files of a schema's tree.
+    pub fn of(alloc: Global, full: &'a Full) -> Result<Namespaces<'a>, AllocError>
+        ensures { IfOk result (λ names. names ≡ full.now.files) }
+    {
+        full.holds();
+        let mut names = Namespaces::new(alloc);
+        for file in 0..full.file_count() {
+            names.push_file(alloc, full, file)?;
+        }
+        Ok(names)
+    }
+
+    // Adds the file of the number.
+    fn push_file(&mut self, alloc: Global, full: &'a Full, file: usize) -> Result<(), AllocError>
+        requires next { IsNextFile self.old full.now.files file }
+        requires places { places_of full.now.files < 2 ^ 64 }
+        requires within { AreFilesWithin full.now.files }
+        ensures { OnOk result (self.new ≡ take (suc file) full.now.files) }
+    {
+        let name = full.file_name(file);
+        let length = full.file_length(file);
+        let inherited = full.file_inherited(file);
+        let declarations = full.declarations(file);
+        self.push(alloc, name, length, inherited, declarations.as_slice())
     }
 
     /// All files.

@@ -4,7 +4,7 @@ use Rattle.std.proofs.lemmas.Bool.{leb-false}
 use Rattle.std.specs.Prelude.{slice_get, slice_index_or, if◌then◌else◌, Bool}
 use Rattle.grammar_laws.specs.Files.{SchemaFile}
 use Rattle.schema_tree.specs.declared.files.Entry.{Entry}
-use Rattle.schema_tree.specs.Files.{places_of, number_at, base_of, file_of, AreWithin, AreBased}
+use Rattle.schema_tree.specs.Files.{places_of, number_at, base_of, file_of, AreWithin, AreFilesWithin, AreBased}
 use Rattle.schema_tree.specs.Trees.{declaration_of}
 
 -- the places of all entries end where their bases do
@@ -12,6 +12,11 @@ pub based_places : (es : List Entry) (n m : ℕ) → AreBased n m es → m ≡ n
 based_places [] n m h = omega arith
 based_places (e ∷ es) n m ((h, v), hs) =
     let r : m ≡ n + suc e.length + places_of (map file_of es) = based_places es (n + suc e.length) m hs in omega arith
+
+-- and their declarations stand in them
+pub based_within : (es : List Entry) (n m : ℕ) → AreBased n m es → AreFilesWithin (map file_of es)
+based_within [] n m h = tt
+based_within (e ∷ es) n m ((h, v), hs) = (v, based_within es (n + suc e.length) m hs)
 
 based_more : (es : List Entry) (e : Entry) (n m : ℕ) → AreBased n m es → e.base ≡ m → AreWithin e.length (map declaration_of e.declarations) → AreBased n (m + suc e.length) (es ++ e ∷ [])
 based_more [] e n m h same v = ((same ∙ h, v), ap (λ k. k + suc e.length) h)

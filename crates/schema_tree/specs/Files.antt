@@ -47,6 +47,11 @@ abbrev pub AreWithin : ℕ → List tree.Declaration → Type 0
 AreWithin n [] = ⊤
 AreWithin n (d ∷ ds) = IsWithin n d × AreWithin n ds
 
+-- in each file
+abbrev pub AreFilesWithin : List SchemaFile → Type 0
+AreFilesWithin [] = ⊤
+AreFilesWithin (f ∷ fs) = AreWithin f.length f.declarations × AreFilesWithin fs
+
 -- the entries' bases, from n on up to m, with the places of their declarations in them
 abbrev pub AreBased : ℕ → ℕ → List Entry → Type 0
 AreBased n m [] = m ≡ n

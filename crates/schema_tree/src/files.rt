@@ -1,6 +1,6 @@
 // The files of a schema.
 ghost use Rattle.std.specs.Prelude.{◌≡◌, ◌<◌, ◌+◌, ◌^◌, ◌==◌, suc, [], ◌∷◌, ◌++◌, length, map, slice_get, Some, OnOk, OnErr};
-ghost use Rattle.schema_tree.specs.Files.{places_of, number_at, base_of, AtFile, AreWithin, AreFitting, file_of};
+ghost use Rattle.schema_tree.specs.Files.{places_of, number_at, base_of, AtFile, AreWithin, AreFilesWithin, AreFitting, file_of};
 ghost use Rattle.schema_tree.specs.Trees.{declaration_of};
 
 use crate::tree::Declaration;
@@ -106,11 +106,26 @@ impl FileList {
         &self.entries[file]
     }
 
+    /// What holds of all files: their places are numbers, and those of a file's declarations are in it.
+    pub(crate) fn holds(&self)
+        ensures places { places_of self.now < 2 ^ 64 }
+        ensures within { AreFilesWithin self.now }
+    {
+        let _entries = self.entries();
+    }
+
     pub(crate) fn name(&self, file: usize) -> &Text
         requires { file < length self.now }
         ensures { AtFile self.now file (λ f. f.name ≡ result.now) }
     {
         &self.entry(file).name
+    }
+
+    pub(crate) fn length(&self, file: usize) -> usize
+        requires { file < length self.now }
+        ensures { AtFile self.now file (λ f. f.length ≡ result) }
+    {
+        self.entry(file).length
     }
 
     pub(crate) fn base(&self, file: usize) -> usize

@@ -1,6 +1,6 @@
 // The tree of a whole schema. Contracts see the files and the body; `full_of` makes the tree of the definitions of them.
-ghost use Rattle.std.specs.Prelude.{◌≡◌, ◌≢◌, ◌<◌, [], length, map};
-ghost use Rattle.schema_tree.specs.Files.{places_of, last_place, number_at, base_of, AtFile};
+ghost use Rattle.std.specs.Prelude.{◌≡◌, ◌≢◌, ◌<◌, ◌^◌, [], length, map};
+ghost use Rattle.schema_tree.specs.Files.{places_of, last_place, number_at, base_of, AtFile, AreFilesWithin};
 ghost use Rattle.schema_tree.specs.Sound.{IsSoundBody};
 ghost use Rattle.schema_tree.specs.Trees.{declaration_of, body_of};
 
@@ -84,6 +84,22 @@ impl Full {
         ensures { AtFile self.now.files file (λ f. f.name ≡ result.now) }
     {
         self.files.name(file)
+    }
+
+    /// How many bytes the file with the number has.
+    pub fn file_length(&self, file: usize) -> usize
+        requires { file < length self.now.files }
+        ensures { AtFile self.now.files file (λ f. f.length ≡ result) }
+    {
+        self.files.length(file)
+    }
+
+    /// What holds of the files of every tree: their places are numbers, and those of a file's declarations are in it.
+    pub fn holds(&self)
+        ensures places { places_of self.now.files < 2 ^ 64 }
+        ensures within { AreFilesWithin self.now.files }
+    {
+        self.files.holds();
     }
 
     /// Where the places of the file with the number begin.
