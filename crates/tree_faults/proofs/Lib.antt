@@ -4,3 +4,7 @@ pub mod Walks
 pub mod Arms
 pub mod KeySets
 pub mod EntryLists
+pub mod GrammarJoins
+pub mod BareFaults
+pub mod Links
+pub mod FirstFaults

@@ -27,8 +27,8 @@ pub struct Entries<'a> {
     pub twice: Option<usize>,
 }
 
-// The place, where the test is passed.
-fn place_if(holds: bool, at: usize) -> Option<usize>
+/// The place, where the test is passed.
+pub(crate) fn place_if(holds: bool, at: usize) -> Option<usize>
     ensures { result ≡ least (place_if holds at) }
 {
     if holds { Some(at) } else { None }
@@ -61,14 +61,12 @@ impl<'a> Entries<'a> {
     }
 
     /// Whether the name is defined; with none, whether there is a start.
-    #[tactic(auto, using(crate::proofs::EntryLists::has_holds, crate::proofs::EntryLists::has_holds_left))]
     pub fn has(&self, key: Option<&str>) -> bool
         ensures { (es : List Entry) → Holds self.now es → result ≡ not (is_empty_list (filter (λ e. same_key (option_map (λ u. u.now) key.entry) e.name) es)) }
     {
-        let is_plain = self.has_method(Method::Plain, key);
-        let is_choice = self.has_method(Method::Choice, key);
-        let is_interleave = self.has_method(Method::Interleave, key);
-        is_plain || is_choice || is_interleave
+        self.has_method(Method::Plain, key)
+            | self.has_method(Method::Choice, key)
+            | self.has_method(Method::Interleave, key)
     }
 
     // Whether one of the name is combined the other way.
@@ -88,7 +86,8 @@ impl<'a> Entries<'a> {
     {
         match method {
             Method::Plain => self.plain.has(key),
-            Method::Choice | Method::Interleave => false,
+            Method::Choice => false,
+            Method::Interleave => false,
         }
     }
 

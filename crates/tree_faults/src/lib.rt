@@ -3,7 +3,11 @@
 #![tactic(auto)]
 
 mod entries;
+mod fault;
+mod first;
+mod grammars;
 mod keys;
 mod names;
 
-pub use names::NameFaults;
+pub use fault::Fault;
+pub use first::{bad_value, first_fault};
