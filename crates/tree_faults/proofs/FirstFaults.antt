@@ -100,7 +100,7 @@ start_step f b rest e r = go b rest e r
     split y h = elim (cases_lt 36 (fault_number y)) [ inl l ↦ inl l | inr l ↦ inr (omega (arith, h, l)) ]
 
     not_there : (y : model.Fault) → false ≡ has_no_start f → fault_number y ≡ 36 → HasFault f y → ⊥
-    not_there y none k w = subst IsTrue (sym none) (only_36 f y k w).0
+    not_there y none k w = let e : false ≡ true = subst IsTrue (sym none) (only_36 f y k w).0 in absurd (cc)
 
     go : (b : Bool) (rest : Option Fault) → b ≡ has_no_start f → FirstFrom 37 f rest → FirstFrom 36 f (first_of (if b then Some Fault.NoStart else None) rest)
     go false None none r = λ y h k w. elim (split y h) [ inl l ↦ r y (omega (arith, l)) k w | inr l ↦ not_there y none l w ]
@@ -111,7 +111,7 @@ start_step f b rest e r = go b rest e r
       λ y h w. elim (split y h) [ inl l ↦ r.3 y (omega (arith, l)) w | inr l ↦ absurd (not_there y none l w) ],
     )
     go true rest there r = (
-      subst IsTrue there tt,
+      subst IsTrue there refl,
       omega arith,
       omega arith,
       λ y h w. elim (split y h) [ inl l ↦ inl l | inr l ↦ inr (sym l, omega arith) ],
@@ -123,10 +123,6 @@ from_41 f = λ y h k w. omega (arith, h, k)
 first_of_none : (x : Option Fault) → first_of x None ≡ x
 first_of_none None = refl
 first_of_none (Some x) = refl
-
-first_of_assoc : (x y z : Option Fault) → first_of (first_of x y) z ≡ first_of x (first_of y z)
-first_of_assoc None y z = refl
-first_of_assoc (Some x) y z = refl
 
 -- in the order of the numbers
 in_order : (f : Full) (d : Found) → IsFound f d →
@@ -169,7 +165,11 @@ ordered None None None None None None None None (Some j) k = refl
 ordered None None None None None None None None None k = first_of_none k
 
 first_from : (f : Full) (d : Found) → IsFound f d → FirstFrom 31 f (first d)
-first_from f d i = subst (FirstFrom 31 f) (ordered _ _ _ _ _ _ _ _ _ _) (in_order f d i)
+first_from f d i =
+    subst (FirstFrom 31 f)
+    (ordered (option_map (λ at. Fault.UnboundPrefix at) d.names.unbound_prefix) (option_map (λ at. Fault.PrefixTwice at) d.prefix_twice) (option_map (λ at. Fault.ReservedPrefix at) d.reserved_prefix) (option_map (λ at. Fault.ClassConstraint at) d.names.constraint) (option_map (λ at. Fault.XmlnsAttribute at) d.names.xmlns_attribute)
+    (if d.grammars.lacks_start then Some Fault.NoStart else None) (option_map (λ at. Fault.UndefinedName at) d.grammars.undefined) (option_map (λ at. Fault.ParentOutside at) d.grammars.outside) (option_map (λ at. Fault.CombineMixed at) d.grammars.mixed) (option_map (λ at. Fault.DefinedTwice at) d.grammars.twice))
+    (in_order f d i)
 
 from_31 : (y : model.Fault) → 31 ≤ fault_number y
 from_31 (model.UnboundPrefix a) = omega arith

@@ -143,6 +143,7 @@ outside_here [] (full.parent name at) = refl
 outside_here [] p = refl
 outside_here (is ∷ []) (full.parent name at) = refl
 outside_here (is ∷ []) p = refl
+outside_here (is ∷ js ∷ s) (full.parent name at) = refl
 outside_here (is ∷ js ∷ s) p = refl
 
 mixed_here : (s : Scope) (p : Pattern) → (grammar.own_faults s p).mixed ≡ least (clashes are_mixed p)

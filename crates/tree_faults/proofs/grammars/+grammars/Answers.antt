@@ -23,6 +23,6 @@ in_grammar-returns t c =
     let is = items_of (map item_of c.args.items.now) in
     IfOk-weaker c.in_items.result _ _
     (λ r h outer s f.
-        behind joined grammar_faults grammars_append joined_assoc c.args.found (faults_of_items is) c.joined-found.result r (grammar_faults (parts_of_items (is ∷ s) is)) c.of_entries.result
-        c.joined-found.ensures (c.of_entries.ensures is c.in_ok-entries.ensures) (h (is ∷ s) (fits_inside c.in_ok-entries.entries _ outer s is c.in_ok-entries.ensures f)))
+    behind joined grammar_faults grammars_append joined_assoc c.args.found (faults_of_items is) c.joined-found.result r (grammar_faults (parts_of_items (is ∷ s) is)) c.of_entries.result
+    c.joined-found.ensures (c.of_entries.ensures is c.in_ok-entries.ensures) (h (is ∷ s) (fits_inside c.in_ok-entries.entries _ outer s is c.in_ok-entries.ensures f)))
     c.in_items.ensures

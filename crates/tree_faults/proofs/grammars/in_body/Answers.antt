@@ -12,6 +12,6 @@ pub returns-in-Items : goal.returns-in-Items
 returns-in-Items c =
     IfOk-weaker c.in_grammar.result _ _
     (λ r h. h None [] (refl, refl)
-        ∙ (λ i. joined (c.none-in-Items.ensures i) (grammar_faults (parts_of [] (grammar (items_of (map item_of (c.as_slice.ensures i)))))))
-        ∙ ap (λ (b : Body). grammar_faults (parts_of [] (body_pattern (body_of b)))) (sym c.in-Items.is))
+    ∙ (λ i. joined (c.none-in-Items.ensures i) (grammar_faults (parts_of [] (grammar (items_of (map item_of (c.as_slice.ensures i)))))))
+    ∙ ap (λ (b : Body). grammar_faults (parts_of [] (body_pattern (body_of b)))) (sym c.in-Items.is))
     c.in_grammar.ensures
