@@ -8,3 +8,4 @@ pub mod GrammarJoins
 pub mod BareFaults
 pub mod Links
 pub mod FirstFaults
+pub mod LaterFaults

@@ -1,5 +1,5 @@
 -- The first of several faults.
-use Rattle.std.specs.Prelude.{◌≡◌, Option, Some, None, option_map, if◌then◌else◌}
+use Rattle.std.specs.Prelude.{◌≡◌, ℕ, ◌<◌, Option, Some, None, option_map, if◌then◌else◌}
 use Rattle.grammar_laws.specs.Files.{Full}
 use Rattle.simple_form_laws.specs.Faults as model
 use Rattle.simple_form_laws.specs.Faults.{class_constraints, combine_mixed, defined_twice, has_no_start, parents_outside, prefixes_twice, reserved_prefixes, unbound_prefixes, undefined_names, xmlns_attributes}
@@ -55,3 +55,10 @@ pub record IsFound (f : Full) (d : Found) : Type 0 where
   pub outside : d.grammars.outside ≡ least (parents_outside f)
   pub mixed : d.grammars.mixed ≡ least (combine_mixed f)
   pub defined : d.grammars.twice ≡ least (defined_twice f)
+
+-- none of the faults that come before a loop
+abbrev pub IsClean : Full → Type 0
+IsClean f = (y : model.Fault) → model.fault_number y < 41 → model.HasFault f y → ⊥
+
+abbrev pub IsFreeOfLoops : Full → Type 0
+IsFreeOfLoops f = (at : ℕ) → model.IsLoop f at → ⊥

@@ -1,9 +1,9 @@
 // The first fault of a tree.
-ghost use Rattle.std.specs.Prelude.{◌≡◌, ◌<◌, None, Some, IfOk};
+ghost use Rattle.std.specs.Prelude.{◌≡◌, None, Some, IfOk};
 ghost use Rattle.schema_tree.specs.Files.{full_of};
-ghost use Rattle.simple_form_laws.specs.Faults.{Fault as FaultValue, HasFault, SimplifyRefusal, bad_values, fault_number};
+ghost use Rattle.simple_form_laws.specs.Faults.{SimplifyRefusal, bad_values};
 ghost use Rattle.name_resolution.specs.Least.{IsLeast};
-ghost use Rattle.tree_faults.specs.Firsts.{IsFound, fault_of, first, first_of_grammars, first_of_names};
+ghost use Rattle.tree_faults.specs.Firsts.{IsClean, IsFound, fault_of, first, first_of_grammars, first_of_names};
 
 use crate::fault::Fault;
 use crate::grammars::{self, GrammarFaults};
@@ -12,9 +12,9 @@ use name_resolution::Namespaces;
 use schema_tree::Full;
 use std::alloc::{AllocError, Global};
 
-/// The least places of all faults.
-#[derive(Clone, Copy, Debug, PartialEq, Eq)]
-pub struct Found {
+// The least places of all faults.
+#[derive(Clone, Copy)]
+struct Found {
     names: NameFaults,
     prefix_twice: Option<usize>,
     reserved_prefix: Option<usize>,
@@ -99,7 +99,7 @@ pub fn first_fault(
 ) -> Result<Option<Fault>, AllocError>
     requires files { names.now ≡ full.now.files }
     ensures found { IfOk result (λ r. (x : Fault) → r ≡ Some x → SimplifyRefusal (full_of full.now) (fault_of x)) }
-    ensures none { IfOk result (λ r. r ≡ None → (y : FaultValue) → fault_number y < 41 → HasFault (full_of full.now) y → ⊥) }
+    ensures none { IfOk result (λ r. r ≡ None → IsClean (full_of full.now)) }
 {
     let found = find(alloc, full, names)?;
     Ok(found.first())

@@ -7,7 +7,12 @@ mod fault;
 mod first;
 mod grammars;
 mod keys;
+mod laws;
 mod names;
 
 pub use fault::Fault;
 pub use first::{bad_value, first_fault};
+pub use laws::later_faults;
+
+#[cfg(test)]
+mod tests;
