@@ -1,6 +1,5 @@
 -- The pattern or item of an arm.
 use Rattle.std.proofs.Common.{◌≡◌, ℕ, List, map, Option, Some, ap, sym, ◌∙◌}
-use Rattle.rng_model.specs.Texts.{Text}
 use Rattle.grammar_laws.specs.Trees.{patterns_of, items_of}
 use Rattle.grammar_laws.specs.Trees as full
 use Rattle.schema_tree.specs.declared.tree.TypeName.{TypeName}

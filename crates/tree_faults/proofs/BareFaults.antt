@@ -8,8 +8,8 @@ use Rattle.grammar_laws.specs.Files.{SchemaFile}
 use Rattle.grammar_laws.specs.Trees.{Pattern, Method, Items, no_item, more_items, Item, start, define, div, include}
 use Rattle.grammar_laws.specs.Trees as full
 use Rattle.simple_form_laws.specs.Parts.{Scope, Part, Entry, entries, entries_in, entries_of, same_key}
-use Rattle.simple_form_laws.specs.Faults.{are_mixed, are_plain, is_empty_list, later_places, parent_in, place_if, undefined_in}
-use Rattle.name_resolution.specs.Least.{least, lesser}
+use Rattle.simple_form_laws.specs.Faults.{are_mixed, are_plain, is_empty_list, later_places, place_if}
+use Rattle.name_resolution.specs.Least.{least}
 use Rattle.tree_faults.specs.Entries.{clashing}
 use Rattle.tree_faults.specs.Names.{name_faults}
 use Rattle.tree_faults.specs.Names as name

@@ -1,14 +1,13 @@
 -- Starts and definitions, one after the other.
-use Rattle.std.proofs.Common.{◌≡◌, ℕ, ◌+◌, ◌<◌, ◌≤◌, Bool, true, false, ◌||◌, ◌&&◌, List, [], ◌∷◌, ◌++◌, Option, Some, None, length, map, take, get_or, refl, ap, sym, subst, ◌∙◌, arith, append-nil, append_assoc}
+use Rattle.std.proofs.Common.{◌≡◌, ℕ, ◌+◌, ◌<◌, ◌≤◌, Bool, true, false, ◌||◌, ◌&&◌, List, [], ◌∷◌, ◌++◌, Option, Some, None, length, map, take, get_or, refl, ap, sym, subst, ◌∙◌, append-nil, append_assoc}
 use Rattle.std.proofs.lemmas.List.{take_more, take_all, map-append}
 use Rattle.std.specs.Prelude.{not, filter, if◌then◌else◌}
 use Rattle.std.specs.List.{list_any}
-use Rattle.std.specs.Str.{bytes_eq}
 use Rattle.std.proofs.lemmas.List.Folds.{list_any-append}
 use Rattle.rng_model.specs.Texts.{Text}
 use Rattle.grammar_laws.specs.Trees.{Method, Plain, Choice, Interleave, Pattern, Item, items_of}
 use Rattle.simple_form_laws.specs.Parts.{Entry, entries, entries_in, same_key}
-use Rattle.simple_form_laws.specs.Faults.{are_mixed, are_plain, is_empty_list, later_places, place_if}
+use Rattle.simple_form_laws.specs.Faults.{are_mixed, are_plain, is_empty_list, place_if}
 use Rattle.name_resolution.specs.Least.{least, lesser}
 use Rattle.name_resolution.proofs.LeastPlaces.{least_append}
 use Rattle.name_resolution.proofs.Again.{later_more}

@@ -1,5 +1,5 @@
 -- The first fault of a tree, from the least places.
-use Rattle.std.proofs.Common.{◌≡◌, ℕ, suc, ◌<◌, ◌≤◌, ◌⊎◌, inl, inr, Bool, true, false, if◌then◌else◌, List, [], ◌∷◌, Option, Some, None, option_map, refl, ap, sym, subst, ◌∙◌, arith}
+use Rattle.std.proofs.Common.{◌≡◌, ℕ, suc, ◌<◌, ◌≤◌, ◌⊎◌, inl, inr, Bool, true, false, if◌then◌else◌, List, [], Option, Some, None, option_map, refl, sym, subst, ◌∙◌, arith}
 use Rattle.std.specs.Prelude.{Contains, IsTrue}
 use Rattle.std.proofs.lemmas.Bool.{cases_lt}
 use Rattle.grammar_laws.specs.Files.{Full}
@@ -9,7 +9,7 @@ use Rattle.name_resolution.specs.Least.{IsLeast, least}
 use Rattle.name_resolution.proofs.LeastPlaces.{least_least}
 use Rattle.tree_faults.specs.declared.fault.Fault.{Fault}
 use Rattle.tree_faults.specs.declared.first.Found.{Found}
-use Rattle.tree_faults.specs.Firsts.{IsFound, fault_of, first, first_of, first_of_grammars, first_of_names}
+use Rattle.tree_faults.specs.Firsts.{IsFound, fault_of, first, first_of}
 
 -- the first fault of a number from n on and up to 40, or none
 abbrev FirstFrom : ℕ → Full → Option Fault → Type 0

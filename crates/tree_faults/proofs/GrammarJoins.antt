@@ -10,7 +10,7 @@ use Rattle.name_resolution.proofs.LeastPlaces.{lesser_assoc, lesser_none}
 use Rattle.tree_faults.specs.declared.entries.Entries.{Entries}
 use Rattle.tree_faults.specs.declared.grammars.GrammarFaults.{GrammarFaults}
 use Rattle.tree_faults.specs.Entries.{Holds}
-use Rattle.tree_faults.specs.Grammars.{AreOf, Fits, faults_of_items, faults_of_parent, faults_of_ref, grammar_faults, joined, no_faults, own_faults}
+use Rattle.tree_faults.specs.Grammars.{Fits, faults_of_items, faults_of_parent, faults_of_ref, grammar_faults, joined, no_faults, own_faults}
 
 or_assoc : (a b c : Bool) → ((a || b) || c) ≡ (a || (b || c))
 or_assoc true b c = refl

@@ -1,5 +1,5 @@
 -- The faults that come behind those of this crate.
-use Rattle.std.proofs.Common.{◌≡◌, ℕ, ◌≤◌, inl, inr, [], Some, None, refl, subst, arith}
+use Rattle.std.proofs.Common.{ℕ, ◌≤◌, inl, inr, Some, None, refl, subst, arith}
 use Rattle.std.specs.Prelude.{Contains}
 use Rattle.grammar_laws.specs.Files.{Full}
 use Rattle.simple_form_laws.specs.Faults.{BadValue, ExpandedTooDeep, Fault, HasFault, IsLoop, IsNoLater, Loop, SimplifyRefusal, bad_values}

@@ -1,9 +1,7 @@
 -- What the walks find, as the lists of the faults.
-use Rattle.std.proofs.Common.{◌≡◌, ℕ, Bool, true, false, ◌||◌, cond, List, [], ◌∷◌, ◌++◌, Option, Some, None, map, refl, ap, sym, ◌∙◌}
-use Rattle.std.specs.Prelude.{filter, filter_map, flat_map}
+use Rattle.std.proofs.Common.{◌≡◌, ℕ, ◌||◌, List, [], ◌∷◌, ◌++◌, Option, Some, None, refl, ap, sym, ◌∙◌}
+use Rattle.std.specs.Prelude.{filter_map, flat_map}
 use Rattle.std.specs.List.{list_any}
-use Rattle.std.proofs.lemmas.Grind.{flat_map-append}
-use Rattle.rng_model.specs.Texts.{Text}
 use Rattle.grammar_laws.specs.Files.{SchemaFile, Full, body_pattern}
 use Rattle.grammar_laws.specs.Trees.{Class, TypeName, Pattern, Method}
 use Rattle.grammar_laws.specs.Trees as full

@@ -1,5 +1,5 @@
 -- The starts and definitions of a grammar, as far as they are read.
-use Rattle.std.specs.Prelude.{◌≡◌, ℕ, Bool, true, false, ◌&&◌, List, [], Option, Some, None}
+use Rattle.std.specs.Prelude.{◌≡◌, ℕ, Bool, true, false, ◌&&◌, List, [], Option}
 use Rattle.std.specs.List.{list_any}
 use Rattle.rng_model.specs.Texts.{Text}
 use Rattle.grammar_laws.specs.Trees.{Method, Plain, Choice, Interleave, Pattern}
