@@ -2,10 +2,9 @@
 use Rattle.std.proofs.Common.{◌≡◌, ℕ, zero, suc, ◌<◌, List, [], ◌∷◌, length, Option, Some, None, slice_get, refl, sym, ◌∙◌, ap, subst, arith, Contains}
 use Rattle.std.proofs.lemmas.Option.{same_Some, slice_get_within}
 use Rattle.name_classes.specs.declared.class.NameClass.{NameClass}
-use Rattle.schema_graph.specs.Shown.{IsClosed, parts_of_node, definition_of}
+use Rattle.schema_graph.specs.Shown.{HasMembers, IsClosed, IsMany, parts_of_node, definition_of}
 use Rattle.schema_graph.specs.declared.node.Node.{Node}
 use Rattle.schema_graph.specs.declared.graph.Graph.{Graph}
-use Rattle.pattern_forms.specs.Formed.{HasMembers, IsMany}
 
 only : (n m : Node) (i : ℕ) → slice_get (n ∷ []) i ≡ Some m → n ≡ m
 only n m zero e = same_Some n m e

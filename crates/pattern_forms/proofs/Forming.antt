@@ -4,14 +4,14 @@ use Rattle.std.proofs.Math.ListN.{set, length-set}
 use Rattle.std.proofs.lemmas.Option.{same_Some, slice_get_within, slice_get-get_or}
 use Rattle.rng_model.specs.Patterns as simple
 use Rattle.simple_form_laws.specs.Meaning.{Group, Choice, Interleave}
-use Rattle.schema_graph.specs.Shown.{IsClosed}
+use Rattle.schema_graph.specs.Shown.{HasMembers, IsClosed, IsMany}
 use Rattle.schema_graph.specs.declared.node.Node.{Node}
 use Rattle.schema_graph.specs.declared.graph.Graph.{Graph}
 use Rattle.pattern_intern.specs.Stored.{tree_at, count, Extends}
 use Rattle.pattern_intern.specs.Schemas.{AreRefsBelow}
 use Rattle.pattern_intern.specs.declared.id.PatternId.{PatternId}
 use Rattle.pattern_forms.specs.Reaching.{definition_at, steps_of, leads_at, Reaches}
-use Rattle.pattern_forms.specs.Formed.{Formed, AreFormed, none, more, IsMany, HasMembers}
+use Rattle.pattern_forms.specs.Formed.{Formed, AreFormed, none, more}
 use Rattle.pattern_forms.specs.Formed as by
 use Rattle.pattern_forms.specs.Outcomes.{HasForm, IsMade}
 use Rattle.pattern_forms.specs.Making.{form_of, form_at, all_joined, made_of, first_of, IsInGraph, IsReady, AreMade, IsMaking, Leaves}

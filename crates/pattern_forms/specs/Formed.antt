@@ -1,5 +1,5 @@
 -- The simple form of a node, by the equations of section Simplification.
-use Rattle.std.specs.Prelude.{◌≡◌, ◌≢◌, ℕ, List, [], ◌∷◌, Some, None, slice_get, fold, ⊤}
+use Rattle.std.specs.Prelude.{◌≡◌, ℕ, List, [], ◌∷◌, Some, None, slice_get, fold}
 use Rattle.rng_model.specs.Texts.{Text}
 use Rattle.rng_model.specs.Patterns as simple
 use Rattle.rng_model.specs.Constructors.{or_empty, interleave_of, one_or_more_of, attribute_of, data_of}
@@ -50,13 +50,3 @@ mutual
   pub data AreFormed (g : Graph) : List ℕ → List simple.Pattern → Type 0 where
     none : AreFormed g [] []
     more : {j : ℕ} {js : List ℕ} {q : simple.Pattern} {qs : List simple.Pattern} → Formed g j q → AreFormed g js qs → AreFormed g (j ∷ js) (q ∷ qs)
-
--- a group, choice or interleave has members
-abbrev pub IsMany : Node → Type 0
-IsMany (Node.Group js) = js ≢ []
-IsMany (Node.Choice js) = js ≢ []
-IsMany (Node.Interleave js) = js ≢ []
-IsMany n = ⊤
-
-pub record HasMembers (g : Graph) : Type 0 where
-  pub each : (i : ℕ) (n : Node) → slice_get g.nodes.items i ≡ Some n → IsMany n

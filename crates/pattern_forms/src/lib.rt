@@ -2,9 +2,8 @@
 #![tactic(auto)]
 
 ghost use Rattle.std.specs.Prelude.{◌≡◌, true, length, IfOk, IfErr, IfNone, IfSome};
-ghost use Rattle.schema_graph.specs.Shown.{IsClosed};
+ghost use Rattle.schema_graph.specs.Shown.{HasMembers, IsClosed};
 ghost use Rattle.pattern_intern.specs.Schemas.{AreRefsBelow};
-ghost use Rattle.pattern_forms.specs.Formed.{HasMembers};
 ghost use Rattle.pattern_forms.specs.Making.{AllMade};
 ghost use Rattle.pattern_forms.specs.Searching.{AreReachedMarked, HasCycle};
 ghost use Rattle.pattern_forms.specs.Outcomes.{AreForms, AreReached, HasNoLoop, IsCause};

@@ -4,7 +4,7 @@ ghost use Rattle.rng_model.specs.Constructors.{or_empty, one_or_more_of, interle
 ghost use Rattle.rng_model.specs.Patterns as pattern;
 ghost use Rattle.pattern_intern.specs.Schemas.{AreRefsBelow};
 ghost use Rattle.pattern_intern.specs.Stored.{Extends, count, tree_at};
-ghost use Rattle.pattern_forms.specs.Formed.{IsMany};
+ghost use Rattle.schema_graph.specs.Shown.{IsMany};
 ghost use Rattle.pattern_forms.specs.Making.{AreMade, AreWithin, IsInGraph, IsMaking, IsPath, IsReady, IsUnmade, first_of, form_at, made_of};
 ghost use Rattle.pattern_forms.specs.Reaching.{definition_at};
 

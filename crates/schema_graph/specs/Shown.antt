@@ -1,5 +1,5 @@
 -- Which part of a schema's tree a node of the graph is: Annex C and section Simplification, with names, prefixes and types resolved.
-use Rattle.std.specs.Prelude.{◌≡◌, ℕ, ◌<◌, List, [], ◌∷◌, length, Option, Some, None, slice_get, Contains}
+use Rattle.std.specs.Prelude.{◌≡◌, ◌≢◌, ℕ, ◌<◌, List, [], ◌∷◌, length, Option, Some, None, slice_get, Contains, ⊤}
 use Rattle.rng_model.specs.Texts.{Text}
 use Rattle.grammar_laws.specs.Trees.{Class, TypeName, Pattern, Patterns, no_pattern, more_patterns, Items}
 use Rattle.grammar_laws.specs.Trees as full
@@ -89,6 +89,16 @@ abbrev pub definition_of : Node → Option ℕ
 definition_of (Node.Reference at d) = Some d
 definition_of (Node.Grammar d) = Some d
 definition_of _ = None
+
+-- a group, choice or interleave has members
+abbrev pub IsMany : Node → Type 0
+IsMany (Node.Group js) = js ≢ []
+IsMany (Node.Choice js) = js ≢ []
+IsMany (Node.Interleave js) = js ≢ []
+IsMany n = ⊤
+
+pub record HasMembers (g : Graph) : Type 0 where
+  pub each : (i : ℕ) (n : Node) → slice_get g.nodes.items i ≡ Some n → IsMany n
 
 -- Each number that stands in the graph is one of its own.
 pub record IsClosed (g : Graph) : Type 0 where

@@ -12,7 +12,7 @@ use Rattle.simple_form_laws.specs.Forms.{element_places, token_at}
 use Rattle.name_classes.specs.declared.class.NameClass.{NameClass}
 use Rattle.name_classes.specs.Views.{class_of}
 use Rattle.schema_graph.specs.declared.node.Node.{Node}
-use Rattle.schema_graph.specs.Shown.{Key, key, Shows, ShowEach, IsKind, parts_of_node, definition_of}
+use Rattle.schema_graph.specs.Shown.{Key, key, Shows, ShowEach, IsKind, IsMany, parts_of_node, definition_of}
 use Rattle.schema_graph.specs.Shown as by
 use Rattle.tree_graph.specs.States.{State, Begins, IsNodeIn, place_of_node}
 use Rattle.tree_graph.specs.Tables.{Table}
@@ -21,35 +21,57 @@ use Rattle.tree_graph.proofs.Lists.{begins_same, begins_more, get_last}
 use Rattle.tree_graph.proofs.Growth.{shows_grows, shown_within}
 use Rattle.tree_graph.proofs.Steps.{ready_inside, walked_node}
 
+-- a node with a part isn't a list without members
+many_of_one : (x : Node) (i : ℕ) → parts_of_node x ≡ i ∷ [] → IsMany x
+many_of_one (Node.Element n c j) i e = tt
+many_of_one (Node.Attribute c j) i e = tt
+many_of_one (Node.Group js) i e = λ none. absurd (cc)
+many_of_one (Node.Choice js) i e = λ none. absurd (cc)
+many_of_one (Node.Interleave js) i e = λ none. absurd (cc)
+many_of_one (Node.Optional j) i e = tt
+many_of_one (Node.ZeroOrMore j) i e = tt
+many_of_one (Node.OneOrMore j) i e = tt
+many_of_one (Node.Mixed j) i e = tt
+many_of_one (Node.Reference at d) i e = tt
+many_of_one (Node.Grammar d) i e = tt
+many_of_one Node.Empty i e = tt
+many_of_one Node.AnyText i e = tt
+many_of_one Node.NotAllowed i e = tt
+many_of_one (Node.Value k t) i e = tt
+many_of_one (Node.DataType k j) i e = tt
+
 -- a node that names no node, no definition and no token
-within_none : (n d t : ℕ) (x : Node) → parts_of_node x ≡ [] → definition_of x ≡ None → ((m j : ℕ) (c : NameClass) → x ≡ Node.Element m c j → ⊥) → IsNodeIn n d t x
-within_none n d t x parts leads content = record {
+within_none : (n d t : ℕ) (x : Node) → IsMany x → parts_of_node x ≡ [] → definition_of x ≡ None → ((m j : ℕ) (c : NameClass) → x ≡ Node.Element m c j → ⊥) → IsNodeIn n d t x
+within_none n d t x many parts leads content = record {
   parts = λ j h. absurd (subst (λ l. IsIn j l) parts (is_in j (parts_of_node x) h));
   content = λ m j c e. absurd (content m j c e);
   leads = λ e h. absurd (cc);
+  many = many;
 }
 
 -- a node that names other nodes only
-within_nodes : (n d t : ℕ) (x : Node) (js : List ℕ) → parts_of_node x ≡ js → definition_of x ≡ None → ((m j : ℕ) (c : NameClass) → x ≡ Node.Element m c j → ⊥) → ((j : ℕ) → IsIn j js → j < n) → IsNodeIn n d t x
-within_nodes n d t x js parts leads content less = record {
+within_nodes : (n d t : ℕ) (x : Node) (js : List ℕ) → IsMany x → parts_of_node x ≡ js → definition_of x ≡ None → ((m j : ℕ) (c : NameClass) → x ≡ Node.Element m c j → ⊥) → ((j : ℕ) → IsIn j js → j < n) → IsNodeIn n d t x
+within_nodes n d t x js many parts leads content less = record {
   parts = λ j h. less j (subst (λ l. IsIn j l) parts (is_in j (parts_of_node x) h));
   content = λ m j c e. absurd (content m j c e);
   leads = λ e h. absurd (cc);
+  many = many;
 }
 
 within_one : (n d t : ℕ) (x : Node) (i : ℕ) → parts_of_node x ≡ i ∷ [] → definition_of x ≡ None → ((m j : ℕ) (c : NameClass) → x ≡ Node.Element m c j → ⊥) → i < n → IsNodeIn n d t x
-within_one n d t x i parts leads content less = within_nodes n d t x (i ∷ []) parts leads content at
+within_one n d t x i parts leads content less = within_nodes n d t x (i ∷ []) (many_of_one x i parts) parts leads content at
   where
     at : (j : ℕ) → IsIn j (i ∷ []) → j < n
     at j (inl e) = omega (arith, e, less)
     at j (inr h) = absurd h
 
 -- a node that leads to a definition
-within_definition : (n d t : ℕ) (x : Node) (i : ℕ) → parts_of_node x ≡ [] → definition_of x ≡ Some i → ((m j : ℕ) (c : NameClass) → x ≡ Node.Element m c j → ⊥) → i < d → IsNodeIn n d t x
-within_definition n d t x i parts leads content less = record {
+within_definition : (n d t : ℕ) (x : Node) (i : ℕ) → IsMany x → parts_of_node x ≡ [] → definition_of x ≡ Some i → ((m j : ℕ) (c : NameClass) → x ≡ Node.Element m c j → ⊥) → i < d → IsNodeIn n d t x
+within_definition n d t x i many parts leads content less = record {
   parts = λ j h. absurd (subst (λ l. IsIn j l) parts (is_in j (parts_of_node x) h));
   content = λ m j c e. absurd (content m j c e);
   leads = λ e h. let k : e ≡ i = cc in omega (arith, k, less);
+  many = many;
 }
 
 module _ (fs : List SchemaFile) (places : List ℕ) (inner outer : Table) (old new : State) where
@@ -59,13 +81,13 @@ module _ (fs : List SchemaFile) (places : List ℕ) (inner outer : Table) (old n
   -- where the parts in the pattern were walked to what Q says of them
   made : (p : Pattern) (x : Node) (xs : Scope → List Part) (Q : List Node → List Key → Scope → Type 0) →
       ((nodes further : List Node) (keys : List Key) (s : Scope) → Begins nodes further → Q nodes keys s → Q further keys s) →
-      ((s : Scope) → parts_of s (hand p) ≡ part s (hand p) ∷ xs s) → ((s : Scope) → token_at s (hand p) ≡ None) → place_of_node x ≡ None → ((s : Scope) → place_of_part (part s (hand p)) ≡ None) →
+      ((s : Scope) → parts_of s (hand p) ≡ part s (hand p) ∷ xs s) → ((s : Scope) → token_at s (hand p) ≡ None) → place_of_node x ≡ None → ((s : Scope) → place_of_part (part s (hand p)) ≡ None) → ((m j : ℕ) (c : NameClass) → x ≡ Node.Element m c j → ⊥) →
       ((nodes : List Node) (keys : List Key) (i : ℕ) (s : Scope) → slice_get nodes i ≡ Some x → Q nodes keys s → Shows fs nodes keys i s (hand p)) →
       ((keys : List Key) (s : Scope) → length keys ≡ length new.definitions → Q new.nodes keys s → IsNodeIn (length new.nodes) (length new.definitions) new.tokens x) →
       IsPatternReady fs places inner outer old p →
       ((s : Scope) (keys : List Key) → IsReady fs places keys inner outer old s (element_places p) (xs s) → (more : List Key) × (IsWalked fs places keys more old new (element_places p) (xs s) × Q new.nodes more s)) →
       IsMade fs places inner outer old new p x
-  made p x xs Q grow parts none m n show within ready walk = (
+  made p x xs Q grow parts none m n other show within ready walk = (
     (let s = ready.0 in
         let r : IsReady fs places ready.1.0 inner outer old s (element_places p) (xs s) = inside s ready.1.0 ready.1.1 in
         let w = walk s ready.1.0 r in
@@ -75,7 +97,7 @@ module _ (fs : List SchemaFile) (places : List ℕ) (inner outer : Table) (old n
           w.0,
           (
             subst (λ l. IsWalked fs places keys w.0 old (record new { nodes = new.nodes ++ x ∷ [] }) (element_places p) l) (sym (parts s))
-                (walked_node fs places keys w.0 old new (element_places p) (xs s) (part s (hand p)) x (none s) m (n s) w.1.0),
+                (walked_node fs places keys w.0 old new (element_places p) (xs s) (part s (hand p)) x (none s) m (n s) other w.1.0),
             show (new.nodes ++ x ∷ []) w.0 (length new.nodes) s (get_last new.nodes x) (grow new.nodes (new.nodes ++ x ∷ []) w.0 s (begins_more new.nodes (x ∷ [])) w.1.1),
           ),
         )),
@@ -91,7 +113,7 @@ module _ (fs : List SchemaFile) (places : List ℕ) (inner outer : Table) (old n
       parts_of_node x ≡ j ∷ [] → definition_of x ≡ None → ((m i : ℕ) (c : NameClass) → x ≡ Node.Element m c i → ⊥) →
       IsPatternReady fs places inner outer old p → IsPatternWalked fs places inner outer old new q j → IsMade fs places inner outer old new p x
   made_of_one p q x j ats parts none m n show own leads content ready walked =
-      made p x (λ s. parts_of s (hand q)) (λ nodes keys s. Shows fs nodes keys j s (hand q)) (λ nodes further keys s g w. shows_grows fs nodes further keys keys g (begins_same keys) w) parts none m n show
+      made p x (λ s. parts_of s (hand q)) (λ nodes keys s. Shows fs nodes keys j s (hand q)) (λ nodes further keys s g w. shows_grows fs nodes further keys keys g (begins_same keys) w) parts none m n content show
       (λ keys s e w. within_one _ _ _ x j own leads content (shown_within fs new.nodes keys w)) ready
       (λ s keys r. subst (λ l. IsReady fs places keys inner outer old s l (parts_of s (hand q)) → (more : List Key) × (IsWalked fs places keys more old new l (parts_of s (hand q)) × Shows fs new.nodes more j s (hand q))) (sym ats) (walked s keys) r)
 

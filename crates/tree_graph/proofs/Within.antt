@@ -11,6 +11,7 @@ node_grows n m d e t x l k w = record {
   parts = λ j h. let a = w.parts j h in omega (arith, a, l);
   content = λ a j c f. let b = w.content a j c f in (let b0 = b.0 in omega (arith, b0, l), b.1);
   leads = λ f h. let a = w.leads f h in omega (arith, a, k);
+  many = w.many;
 }
 
 pub definitions_more : (nodes : List Node) (d e t : ℕ) → d ≤ e → AreNodesIn nodes d t → AreNodesIn nodes e t

@@ -4,6 +4,7 @@ use Rattle.std.specs.List.{AllByRecursion}
 use Rattle.rng_model.specs.Classes as simple
 use Rattle.rng_model.specs.Kinds as kinds
 use Rattle.text_atoms.specs.declared.kind.Kind.{Kind}
+use Rattle.name_classes.specs.declared.class.NameClass.{NameClass}
 use Rattle.rng_model.specs.Texts.{Text}
 use Rattle.grammar_laws.specs.Trees.{TypeName, Pattern, Patterns, Items, Item}
 use Rattle.grammar_laws.specs.Trees as full
@@ -12,7 +13,7 @@ use Rattle.simple_form_laws.specs.Prefixes.{kind_of}
 use Rattle.simple_form_laws.specs.ClassForms.{OfElement, OfAttribute, class_of}
 use Rattle.simple_form_laws.specs.Parts.{Scope, Part, Entry, entries, entries_of, defined, is_interleave, parts_of, parts_of_list, parts_of_items}
 use Rattle.simple_form_laws.specs.Forms.{element_places, places_in_list, places_in_items, numbered, numbered_list, numbered_items, ElementToken, tokens_of}
-use Rattle.simple_form_laws.specs.Faults.{is_empty_list}
+use Rattle.simple_form_laws.specs.Faults.{IsMany, is_empty_list}
 use Rattle.name_resolution.specs.NcNames.{HasNcNames}
 use Rattle.schema_graph.specs.declared.node.Node.{Node}
 use Rattle.schema_graph.specs.Shown.{Key, key, Shows, ShowEach, IsKind}
@@ -31,10 +32,13 @@ abbrev pub IsDefinedOutside : Scope → Text → Type 0
 IsDefinedOutside [] name = ⊥
 IsDefinedOutside (is ∷ s) name = IsDefined s name
 
--- The pattern by itself is taken and has no fault: its names and types resolve, and what it refers to is there.
+-- The pattern by itself is taken and has no fault: its names and types resolve, what it refers to is there, and its lists have members.
 abbrev pub IsSound : List SchemaFile → Scope → Pattern → Type 0
 IsSound fs s (full.element c p at) = HasNcNames c × ((d : simple.Class) × (class_of fs OfElement c ≡ Some d))
 IsSound fs s (full.attribute c p at) = HasNcNames c × ((d : simple.Class) × (class_of fs OfAttribute c ≡ Some d))
+IsSound fs s (full.group ps) = IsMany ps
+IsSound fs s (full.choice ps) = IsMany ps
+IsSound fs s (full.interleave ps) = IsMany ps
 IsSound fs s (full.list p at) = ⊥
 IsSound fs s (full.external t passed at) = ⊥
 IsSound fs s (full.ref name at) = IsDefined s name
@@ -89,6 +93,11 @@ module _ (fs : List SchemaFile) (places : List ℕ) where
   AreCombinedFrom n nodes keys definitions =
       (d : ℕ) (k : Key) → n ≤ d → slice_get keys d ≡ Some k → (i : ℕ) × (slice_get definitions d ≡ Some i) × Shows fs nodes keys i (k.items ∷ k.scope) (defined k.name k.items)
 
+  -- each token's node from the i-th node on is that of a token from the n-th on, whose number it has
+  abbrev pub AreOwnedFrom : ℕ → ℕ → List Node → List ℕ → Type 0
+  AreOwnedFrom i n nodes elements =
+      (a m j : ℕ) (d : NameClass) → i ≤ a → slice_get nodes a ≡ Some (Node.Element m d j) → (k : ℕ) × (n ≤ k) × (slice_get elements k ≡ Some a) × (m ≡ number_at places k)
+
   -- Parts of the tree were walked, with tokens at these places.
   pub record IsWalked (keys more : List Key) (old new : State) (ats : List ℕ) (xs : List Part) : Type 0 where
     pub begun : Begins keys more
@@ -98,6 +107,7 @@ module _ (fs : List SchemaFile) (places : List ℕ) where
     pub combined : AreCombinedFrom (length keys) new.nodes more new.definitions
     pub elements : (is : List ℕ) × (new.elements ≡ old.elements ++ is) × ShowTokens new.nodes more (length old.elements) is (tokens_of xs)
     pub counted : length new.elements ≡ length old.elements + length ats
+    pub owned : AreOwnedFrom (length old.nodes) (length old.elements) new.nodes new.elements
     pub references : filter_map place_of_node new.nodes ≡ filter_map place_of_node old.nodes ++ filter_map place_of_part xs
     pub tokens : new.tokens ≡ old.tokens
 
