@@ -5,3 +5,8 @@ pub mod Steps
 pub mod Made
 pub mod PlaceLists
 pub mod Members
+pub mod Names
+pub mod Writes
+pub mod Ranking
+pub mod References
+pub mod Gathered

@@ -2,5 +2,6 @@ pub mod States
 pub mod Numbers
 pub mod Ranks
 pub mod Tables
+pub mod Combined
 pub mod Walks
 pub mod Graphs
