@@ -127,7 +127,15 @@ module _ (fs : List SchemaFile) where
   formed_of (full.external l passed at) w e a t = w
   formed_of (full.grammar is) w e a t = tt
 
-module _ (f : Full) (taken : IsSimplifiable f) (none : (x : Fault) → fault_number x < 42 → HasFault f x → ⊥) where
+-- the part's own class or type resolves, its grammar has a start, and what it refers to is there
+pub record IsResolved (fs : List SchemaFile) (x : Part) : Type 0 where
+  pub formed : IsFormed fs x.pattern
+  pub started : lacks_start x.pattern ≡ false
+  pub defined : (at : ℕ) → IsIn at (undefined_in x.scope x.pattern) → ⊥
+  pub inside : (at : ℕ) → IsIn at (parent_in x.scope x.pattern) → ⊥
+
+-- without a fault that comes before loops
+module _ (f : Full) (taken : IsSimplifiable f) (none : (x : Fault) → fault_number x < 41 → HasFault f x → ⊥) where
   unbound_at : (n : ℕ) (d : Class) → IsIn d (element_classes f ++ attribute_classes f) → IsIn n (unbound_in_class f.files d) → ⊥
   unbound_at n d i j =
       none (UnboundPrefix n) (omega arith)
@@ -142,12 +150,24 @@ module _ (f : Full) (taken : IsSimplifiable f) (none : (x : Fault) → fault_num
       none (UnboundPrefix n) (omega arith)
       (contained n (unbound_prefixes f) (in_right n (flat_map (unbound_in_class f.files) (element_classes f ++ attribute_classes f)) (flat_map (unbound_in_type f.files) (filter_map (λ y. type_of y.pattern) (parts f))) (in_flat_map (unbound_in_type f.files) k n (filter_map (λ y. type_of y.pattern) (parts f)) (in_filter_map (λ y. type_of y.pattern) x k (parts f) i e) j))))
 
+  pub resolved : (x : Part) → IsIn x (parts f) → IsResolved f.files x
+  resolved x i = record {
+    formed = formed x i;
+    started = none_of (λ y. lacks_start y.pattern) x (parts f) (not_true (has_no_start f) (none NoStart (omega arith))) i;
+    defined = λ at j. none (UndefinedName at) (omega arith) (contained at (undefined_names f) (in_flat_map (λ y. undefined_in y.scope y.pattern) x at (parts f) i j));
+    inside = λ at j. none (ParentOutside at) (omega arith) (contained at (parents_outside f) (in_flat_map (λ y. parent_in y.scope y.pattern) x at (parts f) i j));
+  }
+
+module _ (f : Full) (taken : IsSimplifiable f) (none : (x : Fault) → fault_number x < 42 → HasFault f x → ⊥) where
+  each_resolved : (x : Part) → IsIn x (parts f) → IsResolved f.files x
+  each_resolved = resolved f taken (λ x l h. none x (omega (arith, l)) h)
+
   is_sound : IsSound f.files (tree f)
   is_sound = record {
-    formed = formed;
-    started = λ x i. none_of (λ y. lacks_start y.pattern) x (parts f) (not_true (has_no_start f) (none NoStart (omega arith))) i;
-    defined = λ x at i j. none (UndefinedName at) (omega arith) (contained at (undefined_names f) (in_flat_map (λ y. undefined_in y.scope y.pattern) x at (parts f) i j));
-    inside = λ x at i j. none (ParentOutside at) (omega arith) (contained at (parents_outside f) (in_flat_map (λ y. parent_in y.scope y.pattern) x at (parts f) i j));
+    formed = λ x i. (each_resolved x i).formed;
+    started = λ x i. (each_resolved x i).started;
+    defined = λ x at i j. (each_resolved x i).defined at j;
+    inside = λ x at i j. (each_resolved x i).inside at j;
     loopless = λ x at r v l. none (Loop at) (omega arith) (record { place = x; reference = r; visited = v; back = l });
   }
 

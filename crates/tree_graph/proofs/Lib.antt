@@ -10,3 +10,4 @@ pub mod Writes
 pub mod Ranking
 pub mod References
 pub mod Gathered
+pub mod Sound
