@@ -8,6 +8,7 @@ use Rattle.std.proofs.lemmas.List.Elements.{filter-append, filter_map-append}
 use Rattle.std.proofs.lemmas.List.Folds.{list_any-append}
 use Rattle.std.proofs.lemmas.Option.{get_or_from_slice_get, slice_get_read, slice_get_within, same_Some}
 use Rattle.derivative_laws.proofs.Members.{IsIn, is_in}
+use Rattle.name_classes.specs.declared.class.NameClass.{NameClass}
 use Rattle.schema_graph.specs.declared.node.Node.{Node}
 use Rattle.tree_graph.specs.declared.entry.Entry.{Entry}
 use Rattle.tree_graph.specs.declared.combining.Group.{Group}
@@ -129,10 +130,18 @@ no_place es = by (interleave es)
     by true = refl
     by false = refl
 
+no_token : (es : List Entry) (m j : ℕ) (d : NameClass) → combined es ≡ Node.Element m d j → ⊥
+no_token es m j d = by (interleave es)
+  where
+    by : (b : Bool) → (if b then Node.Interleave (nodes_of es) else Node.Choice (nodes_of es)) ≡ Node.Element m d j → ⊥
+    by true e = absurd (cc)
+    by false e = absurd (cc)
+
 pub none_defined : (n first count : ℕ) (es : List Entry) (old : State) → count ≤ n → AreDefinedFrom n first count es old old
 none_defined n first count es old l = record {
   nodes = begins_same old.nodes;
   references = refl;
+  others = λ a m j d l h. let b = slice_get_within old.nodes a _ h in omega (arith, l, b);
   counted = refl;
   kept = λ d h. refl;
   each = λ k a b. absurd (omega (arith, l, a, b));
@@ -147,6 +156,7 @@ one_defined n m first count es old mid x e less there is w = record {
   nodes = begins_then old.nodes mid.nodes (mid.nodes ++ x ∷ []) w.nodes (begins_more mid.nodes (x ∷ []));
   references = filter_map-append place_of_node mid.nodes (x ∷ []) ∙ ap (λ o. filter_map place_of_node mid.nodes ++ cons_option o []) (ap place_of_node is ∙ no_place (entries_at (first + m) es))
       ∙ append-nil (filter_map place_of_node mid.nodes) ∙ w.references;
+  others = others;
   counted = length-set mid.definitions (first + m) (length mid.nodes) ∙ w.counted;
   kept = kept;
   each = each;
@@ -154,6 +164,20 @@ one_defined n m first count es old mid x e less there is w = record {
   tokens = w.tokens;
 }
   where
+    others : (a n j : ℕ) (d : NameClass) → length old.nodes ≤ a → slice_get (mid.nodes ++ x ∷ []) a ≡ Some (Node.Element n d j) → ⊥
+    others a n j d l h =
+        elim (nat_lt a (length mid.nodes)) as (λ r. nat_lt a (length mid.nodes) ≡ r → ⊥) [
+          | true ↦ λ r. w.others a n j d l (get_in_front mid.nodes (x ∷ []) a (Node.Element n d j) h (ltb-true a (length mid.nodes) r))
+          | false ↦ λ r. last (ltb-false a (length mid.nodes) r)
+        ] refl
+      where
+        last : length mid.nodes ≤ a → ⊥
+        last k =
+            let b = slice_get_within (mid.nodes ++ x ∷ []) a (Node.Element n d j) h in let c : length (mid.nodes ++ x ∷ []) ≡ length mid.nodes + 1 = length-append mid.nodes (x ∷ []) in
+            let f : a ≡ length mid.nodes = omega (arith, k, b, c) in
+            let g = rw f at h in
+            no_token (entries_at (first + m) es) n j d (sym is ∙ same_Some x (Node.Element n d j) (sym (get_last mid.nodes x) ∙ g))
+
     kept : (d : ℕ) → (d < first + m) ⊎ (first + count ≤ d) → slice_get (slice_set mid.definitions (first + m) (length mid.nodes)) d ≡ slice_get old.definitions d
     kept d (inl l) = get_other mid.definitions (first + m) d (length mid.nodes) (λ q. omega (arith, l, q)) ∙ w.kept d (inl (omega (arith, l, e)))
     kept d (inr l) = get_other mid.definitions (first + m) d (length mid.nodes) (λ q. omega (arith, l, q, less)) ∙ w.kept d (inr l)

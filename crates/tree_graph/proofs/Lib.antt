@@ -11,3 +11,5 @@ pub mod Ranking
 pub mod References
 pub mod Gathered
 pub mod Sound
+pub mod Found
+pub mod Keys

@@ -1,6 +1,7 @@
 -- Starts and definitions that are combined: section Simplification (combine attribute).
 use Rattle.std.specs.Prelude.{◌≡◌, ◌≢◌, ℕ, ◌+◌, ◌<◌, ◌≤◌, ◌⊎◌, ◌==◌, if◌then◌else◌, List, [], length, map, filter, filter_map, Some, slice_get}
 use Rattle.std.specs.List.{list_any}
+use Rattle.name_classes.specs.declared.class.NameClass.{NameClass}
 use Rattle.schema_graph.specs.declared.node.Node.{Node}
 use Rattle.tree_graph.specs.declared.entry.Entry.{Entry}
 use Rattle.tree_graph.specs.declared.combining.Group.{Group}
@@ -33,6 +34,8 @@ AreGroups first es groups = (k : ℕ) (g : Group) → slice_get groups k ≡ Som
 pub record AreDefinedFrom (n first count : ℕ) (es : List Entry) (old new : State) : Type 0 where
   pub nodes : Begins old.nodes new.nodes
   pub references : filter_map place_of_node new.nodes ≡ filter_map place_of_node old.nodes
+  -- no node of a token is added
+  pub others : (a m j : ℕ) (d : NameClass) → length old.nodes ≤ a → slice_get new.nodes a ≡ Some (Node.Element m d j) → ⊥
   pub counted : length new.definitions ≡ length old.definitions
   pub kept : (d : ℕ) → (d < first + n) ⊎ (first + count ≤ d) → slice_get new.definitions d ≡ slice_get old.definitions d
   pub each : (k : ℕ) → n ≤ k → k < count → (i : ℕ) × (slice_get new.definitions (first + k) ≡ Some i) × (slice_get new.nodes i ≡ Some (combined (entries_at (first + k) es)))

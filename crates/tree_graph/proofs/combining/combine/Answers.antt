@@ -1,7 +1,7 @@
 use Rattle.std.proofs.Common.{◌≡◌, ◌+◌, ◌∙◌, suc, ◌∷◌, [], length, ap, arith, length-append}
 use Rattle.tree_graph.specs.Combined.{combined, entries_at}
 use Rattle.tree_graph.proofs.Lists.{begins_length}
-use Rattle.tree_graph.proofs.Gathered.{groups_rest, group_last, node_of_group, combined_within, one_defined}
+use Rattle.tree_graph.proofs.Gathered.{groups_rest, group_last, node_of_group, combined_within, none_defined, one_defined}
 use Rattle.tree_graph.proofs.combining.combine.Goals as goal
 
 pub push-requires : goal.push-requires
@@ -15,6 +15,15 @@ push-requires c =
     let entries = rw (← c.base-first.ensures.number) at c.requires.entries in
     rw is (combined_within c.base-first.result (suc (length c.args.table.now.names)) (length c.args.parts.now.nodes) (length c.loop-group.parts.nodes) (length rest) (length c.loop-group.parts.definitions) c.loop-group.parts.tokens
     c.args.entries.now entries (omega (arith, longer, few)) more)
+
+pub loop-group-init : goal.loop-group-init
+loop-group-init c =
+    let counted = c.in_ok-groups.ensures.counted in let many = c.len.ensures.count in
+    record {
+      few = omega (arith, counted, many);
+      groups = c.in_ok-groups.ensures.groups;
+      defined = none_defined (length c.in_ok-groups.groups.items) c.base-first.result (suc (length c.args.table.now.names)) c.args.entries.now c.args.parts.now (omega (arith, counted, many));
+    }
 
 pub loop-group-preserved : goal.loop-group-preserved
 loop-group-preserved c =
