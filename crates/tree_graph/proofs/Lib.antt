@@ -13,3 +13,4 @@ pub mod Gathered
 pub mod Sound
 pub mod Found
 pub mod Keys
+pub mod Wholes
