@@ -9,10 +9,15 @@ use Rattle.tree_graph.specs.States.{State}
 use Rattle.tree_graph.specs.Tables.{Table}
 use Rattle.tree_graph.specs.Walks.{IsReady, IsWalked, at_hand}
 
-module _ (fs : List SchemaFile) (places : List ℕ) where
-  abbrev pub no_table : Table
-  no_table = record { base = 0; names = [] }
+-- no grammar
+abbrev pub no_table : Table
+no_table = record { base = 0; names = [] }
 
+-- nothing is made yet, of a tree of so many tokens
+abbrev pub start : ℕ → State
+start n = record { nodes = []; definitions = []; elements = []; tokens = n }
+
+module _ (fs : List SchemaFile) (places : List ℕ) where
   abbrev pub IsRootReady : State → Pattern → Type 0
   IsRootReady old p = IsReady fs places [] no_table no_table old [] (element_places p) (parts_of [] (at_hand places old p))
 
