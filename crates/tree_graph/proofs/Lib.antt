@@ -14,3 +14,7 @@ pub mod Sound
 pub mod Found
 pub mod Keys
 pub mod Wholes
+pub mod Nodes
+pub mod ItemLists
+pub mod Grammars
+pub mod Walking

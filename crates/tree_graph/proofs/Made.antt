@@ -41,7 +41,7 @@ many_of_one (Node.Value k t) i e = tt
 many_of_one (Node.DataType k j) i e = tt
 
 -- a node that names no node, no definition and no token
-within_none : (n d t : ℕ) (x : Node) → IsMany x → parts_of_node x ≡ [] → definition_of x ≡ None → ((m j : ℕ) (c : NameClass) → x ≡ Node.Element m c j → ⊥) → IsNodeIn n d t x
+pub within_none : (n d t : ℕ) (x : Node) → IsMany x → parts_of_node x ≡ [] → definition_of x ≡ None → ((m j : ℕ) (c : NameClass) → x ≡ Node.Element m c j → ⊥) → IsNodeIn n d t x
 within_none n d t x many parts leads content = record {
   parts = λ j h. absurd (subst (λ l. IsIn j l) parts (is_in j (parts_of_node x) h));
   content = λ m j c e. absurd (content m j c e);
@@ -50,7 +50,7 @@ within_none n d t x many parts leads content = record {
 }
 
 -- a node that names other nodes only
-within_nodes : (n d t : ℕ) (x : Node) (js : List ℕ) → IsMany x → parts_of_node x ≡ js → definition_of x ≡ None → ((m j : ℕ) (c : NameClass) → x ≡ Node.Element m c j → ⊥) → ((j : ℕ) → IsIn j js → j < n) → IsNodeIn n d t x
+pub within_nodes : (n d t : ℕ) (x : Node) (js : List ℕ) → IsMany x → parts_of_node x ≡ js → definition_of x ≡ None → ((m j : ℕ) (c : NameClass) → x ≡ Node.Element m c j → ⊥) → ((j : ℕ) → IsIn j js → j < n) → IsNodeIn n d t x
 within_nodes n d t x js many parts leads content less = record {
   parts = λ j h. less j (subst (λ l. IsIn j l) parts (is_in j (parts_of_node x) h));
   content = λ m j c e. absurd (content m j c e);
@@ -58,7 +58,7 @@ within_nodes n d t x js many parts leads content less = record {
   many = many;
 }
 
-within_one : (n d t : ℕ) (x : Node) (i : ℕ) → parts_of_node x ≡ i ∷ [] → definition_of x ≡ None → ((m j : ℕ) (c : NameClass) → x ≡ Node.Element m c j → ⊥) → i < n → IsNodeIn n d t x
+pub within_one : (n d t : ℕ) (x : Node) (i : ℕ) → parts_of_node x ≡ i ∷ [] → definition_of x ≡ None → ((m j : ℕ) (c : NameClass) → x ≡ Node.Element m c j → ⊥) → i < n → IsNodeIn n d t x
 within_one n d t x i parts leads content less = within_nodes n d t x (i ∷ []) (many_of_one x i parts) parts leads content at
   where
     at : (j : ℕ) → IsIn j (i ∷ []) → j < n
@@ -66,7 +66,7 @@ within_one n d t x i parts leads content less = within_nodes n d t x (i ∷ []) 
     at j (inr h) = absurd h
 
 -- a node that leads to a definition
-within_definition : (n d t : ℕ) (x : Node) (i : ℕ) → IsMany x → parts_of_node x ≡ [] → definition_of x ≡ Some i → ((m j : ℕ) (c : NameClass) → x ≡ Node.Element m c j → ⊥) → i < d → IsNodeIn n d t x
+pub within_definition : (n d t : ℕ) (x : Node) (i : ℕ) → IsMany x → parts_of_node x ≡ [] → definition_of x ≡ Some i → ((m j : ℕ) (c : NameClass) → x ≡ Node.Element m c j → ⊥) → i < d → IsNodeIn n d t x
 within_definition n d t x i many parts leads content less = record {
   parts = λ j h. absurd (subst (λ l. IsIn j l) parts (is_in j (parts_of_node x) h));
   content = λ m j c e. absurd (content m j c e);
@@ -79,7 +79,7 @@ module _ (fs : List SchemaFile) (places : List ℕ) (inner outer : Table) (old n
   hand = at_hand places old
 
   -- where the parts in the pattern were walked to what Q says of them
-  made : (p : Pattern) (x : Node) (xs : Scope → List Part) (Q : List Node → List Key → Scope → Type 0) →
+  pub made : (p : Pattern) (x : Node) (xs : Scope → List Part) (Q : List Node → List Key → Scope → Type 0) →
       ((nodes further : List Node) (keys : List Key) (s : Scope) → Begins nodes further → Q nodes keys s → Q further keys s) →
       ((s : Scope) → parts_of s (hand p) ≡ part s (hand p) ∷ xs s) → ((s : Scope) → token_at s (hand p) ≡ None) → place_of_node x ≡ None → ((s : Scope) → place_of_part (part s (hand p)) ≡ None) → ((m j : ℕ) (c : NameClass) → x ≡ Node.Element m c j → ⊥) →
       ((nodes : List Node) (keys : List Key) (i : ℕ) (s : Scope) → slice_get nodes i ≡ Some x → Q nodes keys s → Shows fs nodes keys i s (hand p)) →
@@ -107,7 +107,7 @@ module _ (fs : List SchemaFile) (places : List ℕ) (inner outer : Table) (old n
       inside s keys r = ready_inside fs places keys inner outer old s (element_places p) (part s (hand p)) (xs s) (subst (λ l. IsReady fs places keys inner outer old s (element_places p) l) (parts s) r)
 
   -- of a pattern in it
-  made_of_one : (p q : Pattern) (x : Node) (j : ℕ) → element_places p ≡ element_places q →
+  pub made_of_one : (p q : Pattern) (x : Node) (j : ℕ) → element_places p ≡ element_places q →
       ((s : Scope) → parts_of s (hand p) ≡ part s (hand p) ∷ parts_of s (hand q)) → ((s : Scope) → token_at s (hand p) ≡ None) → place_of_node x ≡ None → ((s : Scope) → place_of_part (part s (hand p)) ≡ None) →
       ((nodes : List Node) (keys : List Key) (i : ℕ) (s : Scope) → slice_get nodes i ≡ Some x → Shows fs nodes keys j s (hand q) → Shows fs nodes keys i s (hand p)) →
       parts_of_node x ≡ j ∷ [] → definition_of x ≡ None → ((m i : ℕ) (c : NameClass) → x ≡ Node.Element m c i → ⊥) →

@@ -12,7 +12,7 @@ use Rattle.tree_graph.specs.Walks.{IsReady, IsWalked, IsPatternReady, IsPatternW
 use Rattle.tree_graph.proofs.Growth.{shows_grows}
 use Rattle.tree_graph.proofs.Steps.{ready_first, ready_next, walked_none, walked_then}
 
-drop_all : {X : Type 0} (xs : List X) (i : ℕ) → length xs ≤ i → drop i xs ≡ []
+pub drop_all : {X : Type 0} (xs : List X) (i : ℕ) → length xs ≤ i → drop i xs ≡ []
 drop_all [] zero h = refl
 drop_all [] (suc i) h = refl
 drop_all (x ∷ xs) zero h = absurd (omega (arith, h))

@@ -89,7 +89,7 @@ module _ (fs : List SchemaFile) (places : List ℕ) where
     tokens = w.tokens ∙ r.tokens;
   }
 
-  tokens_grow : (nodes further : List Node) (keys more : List Key) → Begins nodes further → Begins keys more → (n : ℕ) (is : List ℕ) (ts : List ElementToken) →
+  pub tokens_grow : (nodes further : List Node) (keys more : List Key) → Begins nodes further → Begins keys more → (n : ℕ) (is : List ℕ) (ts : List ElementToken) →
       ShowTokens fs places nodes keys n is ts → ShowTokens fs places further more n is ts
   tokens_grow nodes further keys more g h n [] [] w = tt
   tokens_grow nodes further keys more g h n [] (t ∷ ts) w = absurd w

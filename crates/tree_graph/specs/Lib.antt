@@ -4,4 +4,5 @@ pub mod Ranks
 pub mod Tables
 pub mod Combined
 pub mod Walks
+pub mod Walker
 pub mod Graphs

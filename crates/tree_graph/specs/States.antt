@@ -1,5 +1,5 @@
 -- The nodes that are made of a tree, and what each of them may name.
-use Rattle.std.specs.Prelude.{◌≡◌, ℕ, ◌<◌, List, ◌++◌, length, Option, Some, None, slice_get, Contains}
+use Rattle.std.specs.Prelude.{◌≡◌, ℕ, ◌<◌, List, [], ◌∷◌, ◌++◌, length, Option, Some, None, slice_get, Contains}
 use Rattle.name_classes.specs.declared.class.NameClass.{NameClass}
 use Rattle.schema_graph.specs.declared.node.Node.{Node}
 use Rattle.schema_graph.specs.Shown.{IsMany, parts_of_node, definition_of}
@@ -36,3 +36,7 @@ pub record Reserved (old new : State) : Type 0 where
   pub definitions : Begins old.definitions new.definitions
   pub elements : new.elements ≡ old.elements
   pub tokens : new.tokens ≡ old.tokens
+
+-- the next token was begun
+pub record IsBegun (old new : State) : Type 0 where
+  pub is : new ≡ record old { elements = old.elements ++ 0 ∷ [] }

@@ -11,8 +11,8 @@ use Rattle.grammar_laws.specs.Trees as full
 use Rattle.grammar_laws.specs.Files.{SchemaFile}
 use Rattle.simple_form_laws.specs.Prefixes.{kind_of}
 use Rattle.simple_form_laws.specs.ClassForms.{OfElement, OfAttribute, class_of}
-use Rattle.simple_form_laws.specs.Parts.{Scope, Part, Entry, entries, entries_of, defined, is_interleave, parts_of, parts_of_list, parts_of_items}
-use Rattle.simple_form_laws.specs.Forms.{element_places, places_in_list, places_in_items, numbered, numbered_list, numbered_items, ElementToken, tokens_of}
+use Rattle.simple_form_laws.specs.Parts.{Scope, Part, Entry, entries, entries_in, entries_of, defined, is_interleave, parts_of, parts_of_list, parts_of_items, parts_of_item}
+use Rattle.simple_form_laws.specs.Forms.{element_places, places_in_list, places_in_items, places_in_item, numbered, numbered_list, numbered_items, numbered_item, ElementToken, tokens_of}
 use Rattle.simple_form_laws.specs.Faults.{IsMany, is_empty_list}
 use Rattle.name_resolution.specs.NcNames.{HasNcNames}
 use Rattle.schema_graph.specs.declared.node.Node.{Node}
@@ -158,6 +158,18 @@ module _ (fs : List SchemaFile) (places : List ℕ) where
       (s : Scope) (keys : List Key) → IsReady keys inner outer old s (places_in_items is) (parts_of_items s (items_at_hand places old is)) →
       (more : List Key) × (IsWalked keys more old new (places_in_items is) (parts_of_items s (items_at_hand places old is))
       × ((ws : List Walked_Entry) × ((after ≡ before ++ ws) × ShowEntries new.nodes more inner s ws (entries (items_at_hand places old is)))))
+
+  -- the same of one item
+  abbrev pub IsItemReady : Table → Table → State → Item → Type 0
+  IsItemReady inner outer old i =
+      AreNamed inner (entries_in i)
+      × ((s : Scope) × ((keys : List Key) × IsReady keys inner outer old s (places_in_item i) (parts_of_item s (numbered_item places (length old.elements) i))))
+
+  abbrev pub IsItemWalked : Table → Table → State → State → Item → List Walked_Entry → List Walked_Entry → Type 0
+  IsItemWalked inner outer old new i before after =
+      (s : Scope) (keys : List Key) → IsReady keys inner outer old s (places_in_item i) (parts_of_item s (numbered_item places (length old.elements) i)) →
+      (more : List Key) × (IsWalked keys more old new (places_in_item i) (parts_of_item s (numbered_item places (length old.elements) i))
+      × ((ws : List Walked_Entry) × ((after ≡ before ++ ws) × ShowEntries new.nodes more inner s ws (entries_in (numbered_item places (length old.elements) i)))))
 
   abbrev pub IsGrammarReady : Table → State → Items → Type 0
   IsGrammarReady inner old is =

@@ -1,6 +1,6 @@
-//! Steps towards the graph of a schema's tree, which has each part of the tree by number: the nodes that are made, the places of the tokens and
-//! their numbers, the names that a grammar defines and what is combined of its definitions (RELAX NG Specification, section Simplification). What
-//! walks the tree isn't there yet.
+//! Steps towards the graph of a schema's tree, which has each part of the tree by number: the walk that makes the nodes, the places of the tokens
+//! and their numbers, the names that a grammar defines and what is combined of its definitions (RELAX NG Specification, section Simplification).
+//! The call that makes the whole graph isn't there yet.
 #![tactic(auto)]
 
 mod combining;
@@ -10,6 +10,7 @@ mod parts;
 mod places;
 mod table;
 mod tokens;
+mod walk;
 
 pub use combining::combine;
 pub use entry::Entry;

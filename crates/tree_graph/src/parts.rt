@@ -1,6 +1,6 @@
 // The nodes that are made.
 ghost use Rattle.std.specs.Prelude.{◌≡◌, [], ◌∷◌, ◌++◌, ◌<◌, length, slice_set, IfOk, OnOk, OnErr};
-ghost use Rattle.tree_graph.specs.States.{AreNodesIn, IsNodeIn};
+ghost use Rattle.tree_graph.specs.States.{AreNodesIn, IsBegun, IsNodeIn};
 
 use schema_graph::Node;
 use std::alloc::{AllocError, Global};
@@ -82,7 +82,7 @@ impl Parts {
     /// Gives the next token its position in the order of the tree.
     pub fn begin_element(&mut self) -> Result<usize, AllocError>
         ensures position { IfOk result (λ k. k ≡ length self.old.elements) }
-        ensures added { OnOk result (self.new ≡ record self.old { elements = self.old.elements ++ 0 ∷ [] }) }
+        ensures begun { OnOk result (IsBegun self.old self.new) }
     {
         let position = self.elements.len();
         self.elements.push(0)?;
