@@ -1,24 +1,23 @@
 -- A walk through a grammar: numbers for its definitions, its items, and what is combined of them.
-use Rattle.std.proofs.Common.{◌≡◌, ℕ, zero, suc, ◌+◌, ◌<◌, ◌≤◌, true, false, nat_lt, inl, inr, List, [], ◌∷◌, ◌++◌, length, map, Some, None, refl, sym, ap, ◌∙◌, subst, arith, append_assoc, length-append}
+use Rattle.std.proofs.Common.{◌≡◌, ℕ, suc, ◌+◌, ◌<◌, ◌≤◌, true, false, nat_lt, inl, inr, List, [], ◌∷◌, ◌++◌, length, map, Some, None, refl, sym, ap, ◌∙◌, subst, arith, length-append}
 use Rattle.std.specs.Prelude.{slice_get}
 use Rattle.std.proofs.lemmas.Bool.{ltb-true, ltb-false}
 use Rattle.std.proofs.lemmas.Option.{same_Some, slice_get_within}
 use Rattle.grammar_laws.specs.Trees.{Pattern, Items}
 use Rattle.grammar_laws.specs.Trees as full
 use Rattle.grammar_laws.specs.Files.{SchemaFile}
-use Rattle.simple_form_laws.specs.Parts.{Scope, Part, part, entries, entries_of, defined, parts_of, parts_of_items}
-use Rattle.simple_form_laws.specs.Forms.{element_places, places_in_items, numbered_items, tokens_of}
+use Rattle.simple_form_laws.specs.Parts.{Scope, part, entries, entries_of, defined, parts_of_items}
+use Rattle.simple_form_laws.specs.Forms.{places_in_items, tokens_of}
 use Rattle.simple_form_laws.specs.Faults.{is_empty_list}
-use Rattle.name_classes.specs.declared.class.NameClass.{NameClass}
 use Rattle.schema_graph.specs.declared.node.Node.{Node}
 use Rattle.schema_graph.specs.Shown.{Key, key, Shows}
 use Rattle.schema_graph.specs.Shown as by
 use Rattle.tree_graph.specs.declared.entry.Entry.{Entry}
-use Rattle.tree_graph.specs.States.{State, Begins, Reserved, IsNodeIn}
+use Rattle.tree_graph.specs.States.{State, Begins, Reserved}
 use Rattle.tree_graph.specs.Numbers.{number_at}
 use Rattle.tree_graph.specs.Tables.{Table, HasNames, Fits, keys_of, with_entries}
 use Rattle.tree_graph.specs.Combined.{AreEntries, AreDefined}
-use Rattle.tree_graph.specs.Walks.{IsReady, IsWalked, IsPatternReady, IsMade, AreItemsReady, AreItemsWalked, IsGrammarReady, IsGrammarWalked, ShowEntries, at_hand, items_at_hand}
+use Rattle.tree_graph.specs.Walks.{IsReady, IsPatternReady, IsMade, AreItemsReady, AreItemsWalked, IsGrammarReady, IsGrammarWalked, ShowEntries, items_at_hand}
 use Rattle.tree_graph.proofs.Lists.{begins_same, begins_more, begins_then, begins_length, get_begins, get_before}
 use Rattle.tree_graph.proofs.Growth.{shows_grows}
 use Rattle.tree_graph.proofs.Steps.{fits_grows, ready_inside, tokens_grow}

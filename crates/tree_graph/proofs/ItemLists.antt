@@ -1,18 +1,17 @@
 -- A walk through the items of a grammar: what is left, and what was added.
-use Rattle.std.proofs.Common.{◌≡◌, ℕ, suc, ◌+◌, ◌<◌, ◌≤◌, List, [], ◌∷◌, ◌++◌, length, map, drop, get_or, Option, Some, None, refl, sym, ap, ◌∙◌, subst, arith, append_assoc, append-nil, drop-cons}
-use Rattle.std.specs.List.{AllByRecursion}
+use Rattle.std.proofs.Common.{◌≡◌, ℕ, suc, ◌+◌, ◌<◌, ◌≤◌, List, [], ◌∷◌, ◌++◌, length, map, drop, get_or, Option, Some, sym, ap, ◌∙◌, subst, arith, append_assoc, append-nil, drop-cons}
 use Rattle.rng_model.specs.Texts.{Text}
 use Rattle.grammar_laws.specs.Trees.{Passed, Pattern, Items, Item, no_item, more_items, items_of}
 use Rattle.grammar_laws.specs.Trees as full
 use Rattle.grammar_laws.specs.Files.{SchemaFile}
-use Rattle.simple_form_laws.specs.Parts.{Scope, Entry, entries, entries_in, is_interleave, parts_of, parts_of_items, parts_of_item}
+use Rattle.simple_form_laws.specs.Parts.{Scope, Entry, entries, entries_in, is_interleave, parts_of_items, parts_of_item}
 use Rattle.simple_form_laws.specs.Forms.{places_in_items, places_in_item, numbered_items, numbered_item}
 use Rattle.schema_graph.specs.declared.node.Node.{Node}
 use Rattle.schema_graph.specs.Shown.{Key, Shows}
 use Rattle.tree_graph.specs.declared.entry.Entry.{Entry as Walked_Entry}
 use Rattle.tree_graph.specs.States.{State, Begins}
-use Rattle.tree_graph.specs.Tables.{Table, number_of, IsNamed, AreNamed}
-use Rattle.tree_graph.specs.Walks.{IsReady, IsWalked, IsPatternReady, IsPatternWalked, AreItemsReady, AreItemsWalked, IsItemReady, IsItemWalked, ShowEntries, definition_number, at_hand, items_at_hand}
+use Rattle.tree_graph.specs.Tables.{Table, number_of, AreNamed}
+use Rattle.tree_graph.specs.Walks.{IsReady, IsWalked, IsPatternReady, IsPatternWalked, AreItemsReady, AreItemsWalked, IsItemReady, IsItemWalked, ShowEntries, at_hand, items_at_hand}
 use Rattle.tree_graph.proofs.Growth.{shows_grows}
 use Rattle.tree_graph.proofs.Steps.{all_front, all_back, ready_first, ready_next, walked_none, walked_then}
 use Rattle.tree_graph.proofs.Members.{drop_all}

@@ -18,3 +18,4 @@ pub mod Nodes
 pub mod ItemLists
 pub mod Grammars
 pub mod Walking
+pub mod Roots

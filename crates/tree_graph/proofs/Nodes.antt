@@ -1,10 +1,8 @@
 -- Each kind of node is made as the pattern says: leaves, lists, references, tokens.
-use Rattle.std.proofs.Common.{◌≡◌, ℕ, zero, suc, ◌+◌, ◌<◌, ◌≤◌, List, [], ◌∷◌, ◌++◌, length, drop, get_or, Option, Some, None, refl, sym, ap, ◌∙◌, subst, arith, length-append}
+use Rattle.std.proofs.Common.{◌≡◌, ℕ, zero, suc, ◌<◌, List, [], ◌∷◌, ◌++◌, length, drop, Option, Some, None, refl, sym, ap, ◌∙◌, subst, arith, length-append}
 use Rattle.std.specs.Prelude.{Contains, slice_get, slice_set, slice_index, ⊤, ◌≢◌}
 use Rattle.derivative_laws.proofs.Members.{is_in}
-use Rattle.std.specs.List.{AllByRecursion}
 use Rattle.std.proofs.lemmas.Option.{same_Some, slice_get_within}
-use Rattle.rng_model.specs.Kinds as simple_kinds
 use Rattle.rng_model.specs.Texts.{Text}
 use Rattle.text_atoms.specs.declared.kind.Kind.{Kind}
 use Rattle.text_atoms.specs.Kinds.{kind_of}
@@ -15,16 +13,16 @@ use Rattle.simple_form_laws.specs.Prefixes as kinds
 use Rattle.simple_form_laws.specs.ClassForms.{OfElement, OfAttribute}
 use Rattle.simple_form_laws.specs.ClassForms as classes
 use Rattle.simple_form_laws.specs.Parts.{Scope, Part, part, parts_of, parts_of_list}
-use Rattle.simple_form_laws.specs.Forms.{element_places, places_in_list, numbered, numbered_list, token_number, token_at}
+use Rattle.simple_form_laws.specs.Forms.{element_places, places_in_list, numbered, token_number, token_at}
 use Rattle.simple_form_laws.specs.Faults as asked
 use Rattle.name_classes.specs.declared.class.NameClass.{NameClass}
 use Rattle.name_classes.specs.Views.{class_of}
 use Rattle.schema_graph.specs.declared.node.Node.{Node}
 use Rattle.schema_graph.specs.Shown.{Key, key, Shows, ShowEach, IsKind, IsMany, parts_of_node, definition_of}
 use Rattle.schema_graph.specs.Shown as by
-use Rattle.tree_graph.specs.States.{State, Begins, IsNodeIn, place_of_node}
-use Rattle.tree_graph.specs.Numbers.{number_at, Follows}
-use Rattle.tree_graph.specs.Tables.{Table, number_of, Fits, IsNamed}
+use Rattle.tree_graph.specs.States.{State, place_of_node}
+use Rattle.tree_graph.specs.Numbers.{number_at}
+use Rattle.tree_graph.specs.Tables.{Table, number_of, Fits}
 use Rattle.tree_graph.specs.Walks.{IsReady, IsWalked, IsPatternReady, IsPatternWalked, IsMade, AreMembersReady, AreMembersWalked, IsSound, AreSound, IsDefined, IsDefinedOutside, at_hand, list_at_hand, place_of_part}
 use Rattle.tree_graph.proofs.Lists.{begins_same, begins_more, get_last}
 use Rattle.tree_graph.proofs.Growth.{kind_grows, each_grows, each_within, shows_grows, shown_within}

@@ -24,8 +24,7 @@ use Rattle.schema_tree.proofs.Folds as fold
 use Rattle.simple_form_laws.specs.Prefixes as kinds
 use Rattle.simple_form_laws.specs.ClassForms.{OfElement, OfAttribute}
 use Rattle.simple_form_laws.specs.ClassForms as classes
-use Rattle.simple_form_laws.specs.Parts.{entries, is_interleave, parts_of, parts_of_list}
-use Rattle.simple_form_laws.specs.Forms.{element_places}
+use Rattle.simple_form_laws.specs.Parts.{entries, is_interleave}
 use Rattle.name_resolution.specs.NcNames.{HasNcNames}
 use Rattle.name_classes.specs.declared.class.NameClass.{NameClass}
 use Rattle.name_classes.specs.Views.{class_of}
@@ -36,7 +35,7 @@ use Rattle.tree_graph.specs.States.{State, IsBegun, IsNodeIn, Reserved}
 use Rattle.tree_graph.specs.Numbers.{number_at}
 use Rattle.tree_graph.specs.Tables.{Table, number_of, with_entries, IsNamed}
 use Rattle.tree_graph.specs.Combined.{AreEntries, AreDefined}
-use Rattle.tree_graph.specs.Walks.{IsPatternReady, IsPatternWalked, IsMade, AreMembersReady, AreMembersWalked, AreItemsReady, AreItemsWalked, IsItemReady, IsItemWalked, IsGrammarWalked, at_hand}
+use Rattle.tree_graph.specs.Walks.{IsPatternReady, IsPatternWalked, IsMade, AreItemsReady, AreItemsWalked, IsItemReady, IsItemWalked, IsGrammarWalked}
 use Rattle.tree_graph.specs.Walker.{HasKind, CanWalk, Walks, Makes, CanWalkEach, WalksEach, CanWalkGrammar, WalksGrammar, CanWalkItem, WalksItem, CanWalkItems, WalksItems}
 use Rattle.tree_graph.proofs.Made as one
 use Rattle.tree_graph.proofs.Nodes as node

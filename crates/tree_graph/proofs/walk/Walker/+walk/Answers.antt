@@ -1,11 +1,9 @@
-use Rattle.std.proofs.Common.{◌≡◌, Some, None, map, sym, ap, ◌∙◌, subst, arith, rules}
-use Rattle.std.proofs.lemmas.Grind.{common_steps}
+use Rattle.std.proofs.Common.{map, sym, ap, ◌∙◌, subst, arith, rules}
 use denote.Param.Weighed.{at_most}
 use Rattle.grammar_laws.specs.Trees.{patterns_of, items_of}
 use Rattle.schema_tree.specs.Trees.{pattern_of, item_of}
 use Rattle.schema_tree.specs.declared.tree.Item.TheViews.{size-Pattern}
 use Rattle.schema_tree.specs.declared.tree.Item.TheViews as view
-use Rattle.tree_graph.specs.Walker.{CanWalk, CanWalkEach, Walks, WalksEach}
 use Rattle.tree_graph.proofs.Members.{AreLeft, left_first, left_at, left_step, left_end}
 use Rattle.tree_graph.proofs.ItemLists.{items_first, item_at, items_step, items_end}
 use Rattle.tree_graph.proofs.Walking as by
