@@ -8,6 +8,8 @@ mod entry;
 mod parts;
 mod places;
 mod table;
+#[cfg(test)]
+mod tests;
 mod tokens;
 mod walk;
 mod whole;
