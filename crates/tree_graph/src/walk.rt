@@ -140,7 +140,6 @@ impl Walker<'_> {
     }
 
     // Makes the nodes of all that stands in a pattern, and gives its own.
-    #[tactic(auto, using(crate::proofs::Walking::can_element, crate::proofs::Walking::can_attribute, crate::proofs::Walking::can_group, crate::proofs::Walking::can_choice, crate::proofs::Walking::can_interleave, crate::proofs::Walking::can_optional, crate::proofs::Walking::can_zero_or_more, crate::proofs::Walking::can_one_or_more, crate::proofs::Walking::can_mixed, crate::proofs::Walking::can_data_except, crate::proofs::Walking::element_class, crate::proofs::Walking::attribute_class, crate::proofs::Walking::value_kind, crate::proofs::Walking::ref_name, crate::proofs::Walking::parent_name, crate::proofs::Walking::no_list, crate::proofs::Walking::no_external))]
     #[cycle(walk)]
     fn node(&self, parts: &mut Parts, pattern: &Pattern) -> Result<Node, AllocError>
         requires { CanWalk self.now.names.now self.now.tokens.now self.now.inner.now self.now.outer.now parts.old (pattern_of pattern.now) }

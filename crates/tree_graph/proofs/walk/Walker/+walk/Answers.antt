@@ -1,4 +1,4 @@
-use Rattle.std.proofs.Common.{map, sym, ap, ◌∙◌, subst, arith, rules}
+use Rattle.std.proofs.Common.{Some, map, sym, ap, ◌∙◌, subst, arith, rules}
 use denote.Param.Weighed.{at_most}
 use Rattle.grammar_laws.specs.Trees.{patterns_of, items_of}
 use Rattle.schema_tree.specs.Trees.{pattern_of, item_of}
@@ -189,3 +189,67 @@ grammar-combine-requires-clause-entries t c =
 pub grammar-returns : goal.grammar-returns
 grammar-returns t c =
     by.grammar_walks _ _ _ _ _ _ _ c.in_ok-table.ensures.table c.in_ok-table.ensures.counted c.in_ok-table.ensures.reserved c.new-entries.ensures.items c.as_slice.ensures.value c.base.ensures.number c.requires c.in_ok-items.ensures c.in_ok-combine.ensures
+
+pub node-pattern-requires-in-Optional : goal.node-pattern-requires-in-Optional
+node-pattern-requires-in-Optional t c = (
+  (let d = c.decreases in let e = ap size-Pattern c.in-Optional.is in let f = view.sized-Optional c.in-Optional.content in rw c.get-in-Optional.ensures (omega (arith, d, e, f))),
+  by.can_same _ _ c.get-in-Optional.ensures (by.can_optional _ _ c.in-Optional.is c.requires),
+)
+
+pub node-pattern-requires-in-ZeroOrMore : goal.node-pattern-requires-in-ZeroOrMore
+node-pattern-requires-in-ZeroOrMore t c = (
+  (let d = c.decreases in let e = ap size-Pattern c.in-ZeroOrMore.is in let f = view.sized-ZeroOrMore c.in-ZeroOrMore.content in rw c.get-in-ZeroOrMore.ensures (omega (arith, d, e, f))),
+  by.can_same _ _ c.get-in-ZeroOrMore.ensures (by.can_zero_or_more _ _ c.in-ZeroOrMore.is c.requires),
+)
+
+pub node-pattern-requires-in-OneOrMore : goal.node-pattern-requires-in-OneOrMore
+node-pattern-requires-in-OneOrMore t c = (
+  (let d = c.decreases in let e = ap size-Pattern c.in-OneOrMore.is in let f = view.sized-OneOrMore c.in-OneOrMore.content in rw c.get-in-OneOrMore.ensures (omega (arith, d, e, f))),
+  by.can_same _ _ c.get-in-OneOrMore.ensures (by.can_one_or_more _ _ c.in-OneOrMore.is c.requires),
+)
+
+pub node-pattern-requires-in-Mixed : goal.node-pattern-requires-in-Mixed
+node-pattern-requires-in-Mixed t c = (
+  (let d = c.decreases in let e = ap size-Pattern c.in-Mixed.is in let f = view.sized-Mixed c.in-Mixed.content in rw c.get-in-Mixed.ensures (omega (arith, d, e, f))),
+  by.can_same _ _ c.get-in-Mixed.ensures (by.can_mixed _ _ c.in-Mixed.is c.requires),
+)
+
+pub node-pattern-requires-in-Attribute : goal.node-pattern-requires-in-Attribute
+node-pattern-requires-in-Attribute t c = (
+  (let d = c.decreases in let e = ap size-Pattern c.in-Attribute.is in let f = view.sized-Attribute c.in-Attribute.class c.in-Attribute.content c.in-Attribute.at in rw c.get-in-Attribute.ensures (omega (arith, d, e, f))),
+  by.can_same _ _ c.get-in-Attribute.ensures (by.can_attribute _ _ _ _ c.in-Attribute.is c.requires),
+)
+
+pub node-pattern-requires-in-Some : goal.node-pattern-requires-in-Some
+node-pattern-requires-in-Some t c =
+    let g = c.in-DataType.is ∙ ap (λ o. view.DataType c.in-DataType.of c.in-DataType.parameters o) c.in-Some.is in (
+      (let d = c.decreases in let e = ap size-Pattern g in let f = view.sized-DataType c.in-DataType.of c.in-DataType.parameters (Some c.in-Some.except) in rw c.get-in-Some.ensures (omega (arith, d, e, f))),
+      by.can_same _ _ c.get-in-Some.ensures (by.can_data_except _ _ _ _ g c.requires),
+    )
+
+pub node-class-requires-clause-names : goal.node-class-requires-clause-names
+node-class-requires-clause-names t c = (by.element_class _ _ _ _ c.in-Element.is c.requires).0
+
+pub node-class-requires-clause-resolved : goal.node-class-requires-clause-resolved
+node-class-requires-clause-resolved t c = (by.element_class _ _ _ _ c.in-Element.is c.requires).1
+
+pub node-class-requires-in-Attribute-clause-names : goal.node-class-requires-in-Attribute-clause-names
+node-class-requires-in-Attribute-clause-names t c = (by.attribute_class _ _ _ _ c.in-Attribute.is c.requires).0
+
+pub node-class-requires-in-Attribute-clause-resolved : goal.node-class-requires-in-Attribute-clause-resolved
+node-class-requires-in-Attribute-clause-resolved t c = (by.attribute_class _ _ _ _ c.in-Attribute.is c.requires).1
+
+pub node-value_kind-kind-requires : goal.node-value_kind-kind-requires
+node-value_kind-kind-requires t c = by.value_kind _ _ _ c.in-Value.is c.requires
+
+pub node-reference-requires : goal.node-reference-requires
+node-reference-requires t c = by.ref_name _ _ _ c.in-Ref.is c.requires
+
+pub node-reference-requires-in-Parent : goal.node-reference-requires-in-Parent
+node-reference-requires-in-Parent t c = by.parent_name _ _ _ c.in-Parent.is c.requires
+
+pub node-unreachable-requires : goal.node-unreachable-requires
+node-unreachable-requires t c = absurd (by.no_list _ _ _ c.in-List.is c.requires)
+
+pub node-unreachable-requires-in-External : goal.node-unreachable-requires-in-External
+node-unreachable-requires-in-External t c = absurd (by.no_external _ _ _ _ c.in-External.is c.requires)
