@@ -1,0 +1,5 @@
+pub mod Rules
+pub mod Truths
+pub mod Shared
+pub mod Described
+pub mod Flags
