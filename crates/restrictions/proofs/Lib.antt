@@ -6,3 +6,4 @@ pub mod Meeting
 pub mod Sharing
 pub mod Flags
 pub mod Outcomes
+pub mod Simple

@@ -20,8 +20,8 @@ pub(crate) fn is_loose(pool: &Pool, id: PatternId, known: &[Described]) -> bool
         | Node::Ref(_)
         | Node::Value(_, _)
         | Node::DataType(_, None)
-        | Node::OneOrMore(_)
         | Node::After(_, _) => false,
+        Node::OneOrMore(_) => false,
         Node::DataType(_, Some(except)) => known_at(pool, id, known, except).loose,
         Node::Attribute(class, content) => {
             let content = known_at(pool, id, known, content).loose;

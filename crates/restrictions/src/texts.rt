@@ -1,5 +1,5 @@
 // Text in both sides of an interleave (section Restrictions on interleave).
-ghost use Rattle.std.specs.Prelude.{◌≡◌, ◌<◌};
+ghost use Rattle.std.specs.Prelude.{◌≡◌, ◌<◌, false};
 ghost use Rattle.rng_model.specs.Patterns.{Pattern, choice, group, interleave};
 ghost use Rattle.pattern_intern.specs.Stored.{count, tree_at};
 ghost use Rattle.restrictions.specs.Described.{AreDescribed, AreTexts};
@@ -17,6 +17,26 @@ pub(crate) struct Texts {
 }
 
 impl Texts {
+    /// Of a pattern without parts, by whether it is text.
+    fn leaf(stands: bool) -> Texts
+        ensures { result ≡ record { stands = stands; meets = false } }
+    {
+        Texts {
+            stands,
+            meets: false,
+        }
+    }
+
+    /// Of an attribute, from its content, whose text doesn't count.
+    fn hidden(self) -> Texts
+        ensures { result ≡ record { stands = false; meets = self.meets } }
+    {
+        Texts {
+            stands: false,
+            meets: self.meets,
+        }
+    }
+
     /// Of two patterns side by side.
     fn beside(self, other: Texts) -> Texts
         ensures choice { (p q : Pattern) → AreTexts p self → AreTexts q other → AreTexts (choice p q) result }
@@ -50,24 +70,12 @@ pub(crate) fn texts_of(pool: &Pool, id: PatternId, known: &[Described]) -> Texts
         | Node::Empty
         | Node::Ref(_)
         | Node::Value(_, _)
-        | Node::DataType(_, None) => Texts {
-            stands: false,
-            meets: false,
-        },
-        Node::AnyText => Texts {
-            stands: true,
-            meets: false,
-        },
+        | Node::DataType(_, None) => Texts::leaf(false),
+        Node::AnyText => Texts::leaf(true),
         Node::DataType(_, Some(part)) | Node::OneOrMore(part) => {
             known_at(pool, id, known, part).texts
         }
-        Node::Attribute(_, content) => {
-            let texts = known_at(pool, id, known, content).texts;
-            Texts {
-                stands: false,
-                meets: texts.meets,
-            }
-        }
+        Node::Attribute(_, content) => known_at(pool, id, known, content).texts.hidden(),
         Node::Choice(left, right) | Node::Group(left, right) => {
             let left = known_at(pool, id, known, left).texts;
             left.beside(known_at(pool, id, known, right).texts)
@@ -78,11 +86,7 @@ pub(crate) fn texts_of(pool: &Pool, id: PatternId, known: &[Described]) -> Texts
         }
         Node::After(left, right) => {
             let left = known_at(pool, id, known, left).texts;
-            let right = known_at(pool, id, known, right).texts;
-            Texts {
-                stands: false,
-                meets: left.meets || right.meets,
-            }
+            left.beside(known_at(pool, id, known, right).texts).hidden()
         }
     }
 }
