@@ -92,7 +92,7 @@ fn universe(alloc: Global) -> Result<Option<Universe>, AllocError> {
         return Ok(None);
     };
     let mut elements = Definitions::new(alloc);
-    elements.push(NameClass::One(name), content)?;
+    elements.push(NameClass::one(alloc, name)?, content)?;
     let schema = Schema::new(pool, content, elements);
     Ok(Some(Universe::of(alloc, &schema, 1)?))
 }

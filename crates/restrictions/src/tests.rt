@@ -35,8 +35,8 @@ fn text(alloc: Global, characters: &str) -> Result<Text, Fail> {
 /// The class of any name, or of one name without namespace.
 fn class(alloc: Global, name: &str) -> Result<NameClass, Fail> {
     Ok(match name {
-        "*" => NameClass::Any(None),
-        _ => NameClass::One(Name::new(text(alloc, "")?, text(alloc, name)?)?),
+        "*" => NameClass::any(alloc)?,
+        _ => NameClass::one(alloc, Name::new(text(alloc, "")?, text(alloc, name)?)?)?,
     })
 }
 
