@@ -120,29 +120,5 @@ module _ (fs : List SchemaFile) (places : List ℕ) (inner outer : Table) (initi
 
 -- one item
 module _ (fs : List SchemaFile) (places : List ℕ) (inner outer : Table) (old : State) where
-  pub ready_start : (m : full.Method) (p : Pattern) (at : ℕ) → IsItemReady fs places inner outer old (full.start m p at) → IsPatternReady fs places inner outer old p
-  ready_start m p at r = r.1
-
-  pub ready_define : (name : Text) (m : full.Method) (p : Pattern) (at : ℕ) → IsItemReady fs places inner outer old (full.define name m p at) → IsPatternReady fs places inner outer old p
-  ready_define name m p at r = r.1
-
-  pub ready_div : (is : Items) → IsItemReady fs places inner outer old (full.div is) → AreItemsReady fs places inner outer old is
-  ready_div is r = r
-
-  pub walked_start : (new : State) (m : full.Method) (p : Pattern) (at j : ℕ) (before after : List Walked_Entry) (w : Walked_Entry) → w ≡ record { definition = inner.base; interleaves = is_interleave m; node = j } → after ≡ before ++ w ∷ [] →
-      IsPatternWalked fs places inner outer old new p j → IsItemWalked fs places inner outer old new (full.start m p at) before after
-  walked_start new m p at j before after w is e walked s keys r =
-      let v = walked s keys r in
-      (v.0, (v.1.0, (w ∷ [], (e, (ap (λ x. Some x.definition) (sym is), ap (λ x. x.interleaves) is, subst (λ n. Shows fs new.nodes v.0 n s (at_hand places old p)) (ap (λ x. x.node) (sym is)) v.1.1, tt)))))
-
-  pub walked_define : (new : State) (name : Text) (m : full.Method) (p : Pattern) (at j d : ℕ) (before after : List Walked_Entry) (w : Walked_Entry) → number_of inner name ≡ Some d → w ≡ record { definition = d; interleaves = is_interleave m; node = j } →
-      after ≡ before ++ w ∷ [] → IsPatternWalked fs places inner outer old new p j → IsItemWalked fs places inner outer old new (full.define name m p at) before after
-  walked_define new name m p at j d before after w number is e walked s keys r =
-      let v = walked s keys r in
-      (v.0, (v.1.0, (w ∷ [], (e, (number ∙ ap (λ x. Some x.definition) (sym is), ap (λ x. x.interleaves) is, subst (λ n. Shows fs new.nodes v.0 n s (at_hand places old p)) (ap (λ x. x.node) (sym is)) v.1.1, tt)))))
-
-  pub walked_div : (new : State) (is : Items) (before after : List Walked_Entry) → AreItemsWalked fs places inner outer old new is before after → IsItemWalked fs places inner outer old new (full.div is) before after
-  walked_div new is before after w = w
-
   pub walked_include : (t : Text) (passed : Option Passed) (is : Items) (at : ℕ) (before : List Walked_Entry) → IsItemWalked fs places inner outer old old (full.include t passed is at) before before
   walked_include t passed is at before s keys r = (keys, (walked_none fs places keys old r.keyed, ([], (sym (append-nil before), tt))))

@@ -208,35 +208,12 @@ module _ {fs : List SchemaFile} {places : List ℕ} {inner outer : Table} {old :
   item_as : (i : Item) {j : full.Item} → item_of i ≡ j → CanWalkItem fs places inner outer old i → IsItemReady fs places inner outer old j
   item_as i e r = subst (λ z. IsItemReady fs places inner outer old z) e r.ready
 
-  pub can_start : (i : Item) (m : Method) (p : Pattern) (at : ℕ) → i ≡ Start m p at → CanWalkItem fs places inner outer old i → CanWalk fs places inner outer old (pattern_of p)
-  can_start i m p at e r = record { ready = item.ready_start fs places inner outer old (method_of m) (pattern_of p) at (item_as _ (ap item_of e ∙ fold.item_start m p at) r) }
-
-  pub can_define : (i : Item) (name : Text) (m : Method) (p : Pattern) (at : ℕ) → i ≡ Define name m p at → CanWalkItem fs places inner outer old i → CanWalk fs places inner outer old (pattern_of p)
-  can_define i name m p at e r = record { ready = item.ready_define fs places inner outer old name (method_of m) (pattern_of p) at (item_as _ (ap item_of e ∙ fold.item_define name m p at) r) }
-
-  pub can_div : (i : Item) (is js : List Item) → i ≡ view.Div is → js ≡ is → CanWalkItem fs places inner outer old i → CanWalkItems fs places inner outer old js
-  can_div i is js e same r = record { ready = subst (λ l. AreItemsReady fs places inner outer old (items_of (map item_of l))) (sym same) (item.ready_div fs places inner outer old (items_of (map item_of is)) (item_as _ (ap item_of e ∙ fold.item_div is) r)) }
-
   pub define_named : (i : Item) (name : Text) (m : Method) (p : Pattern) (at : ℕ) → i ≡ Define name m p at → CanWalkItem fs places inner outer old i → IsNamed inner (Some name)
   define_named i name m p at e r = (item_as _ (ap item_of e ∙ fold.item_define name m p at) r).0.0
 
 module _ {fs : List SchemaFile} {places : List ℕ} {inner outer : Table} {old new : State} where
   walked_as : (i : Item) {j : full.Item} (before after : List Entry) → item_of i ≡ j → IsItemWalked fs places inner outer old new j before after → WalksItem fs places inner outer old new i before after
   walked_as i before after e w = record { walked = subst (λ z. IsItemWalked fs places inner outer old new z before after) (sym e) w }
-
-  pub walks_start : (i : Item) (m : Method) (p : Pattern) (at j : ℕ) (before after : List Entry) (w : Entry) → i ≡ Start m p at → w ≡ record { definition = inner.base; interleaves = is_interleave (method_of m); node = j } → after ≡ before ++ w ∷ [] →
-      Walks fs places inner outer old new (pattern_of p) j → WalksItem fs places inner outer old new i before after
-  walks_start i m p at j before after w e is added walked = walked_as i before after (ap item_of e ∙ fold.item_start m p at) (item.walked_start fs places inner outer old new (method_of m) (pattern_of p) at j before after w is added walked.walked)
-
-  pub walks_define : (i : Item) (name : Text) (m : Method) (p : Pattern) (at j d : ℕ) (before after : List Entry) (w : Entry) → i ≡ Define name m p at → number_of inner name ≡ Some d →
-      w ≡ record { definition = d; interleaves = is_interleave (method_of m); node = j } → after ≡ before ++ w ∷ [] → Walks fs places inner outer old new (pattern_of p) j → WalksItem fs places inner outer old new i before after
-  walks_define i name m p at j d before after w e number is added walked =
-      walked_as i before after (ap item_of e ∙ fold.item_define name m p at) (item.walked_define fs places inner outer old new name (method_of m) (pattern_of p) at j d before after w number is added walked.walked)
-
-  pub walks_div : (i : Item) (is js : List Item) (before after : List Entry) → i ≡ view.Div is → js ≡ is → WalksItems fs places inner outer old new js before after → WalksItem fs places inner outer old new i before after
-  walks_div i is js before after e same w =
-      walked_as i before after (ap item_of e ∙ fold.item_div is)
-      (item.walked_div fs places inner outer old new (items_of (map item_of is)) before after (subst (λ l. AreItemsWalked fs places inner outer old new (items_of (map item_of l)) before after) same w.walked))
 
 module _ {fs : List SchemaFile} {places : List ℕ} {inner outer : Table} {old : State} where
   pub walks_include : (i : Item) (t : Text) (passed : Option Passed) (is : List Item) (at : ℕ) (before : List Entry) → i ≡ view.Include t passed is at → WalksItem fs places inner outer old old i before before

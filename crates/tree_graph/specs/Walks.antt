@@ -181,7 +181,3 @@ module _ (fs : List SchemaFile) (places : List ℕ) where
       (outer : Table) (s : Scope) (keys : List Key) → IsReady keys inner outer old s (places_in_items is) (parts_of_items (items_at_hand places old is ∷ s) (items_at_hand places old is)) →
       (more : List Key) × (IsWalked keys more old new (places_in_items is) (parts_of_items (items_at_hand places old is ∷ s) (items_at_hand places old is))
       × (slice_get more d ≡ Some (key s (items_at_hand places old is) None)))
-
-  -- the node of a value
-  abbrev pub IsValue : Option TypeName → Text → Node → Type 0
-  IsValue of t x = (k : Kind) × ((x ≡ Node.Value k t) × IsKind fs [] [] of k)
