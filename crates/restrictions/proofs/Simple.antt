@@ -1,5 +1,5 @@
 -- Patterns without After, whose references are below a number, and their schemas.
-use Rattle.std.proofs.Common.{◌≡◌, ◌≢◌, ℕ, zero, suc, ◌+◌, ◌<◌, ◌⊎◌, inl, inr, Some, None, List, [], ◌∷◌, length, map, slice_get, refl, sym, subst, arith}
+use Rattle.std.proofs.Common.{◌≡◌, ◌≢◌, ℕ, zero, suc, ◌+◌, ◌<◌, ◌⊎◌, inl, inr, Some, None, List, [], ◌∷◌, map, slice_get, refl, sym, subst, arith}
 use Rattle.std.specs.Prelude.{⊤}
 use Rattle.pattern_intern.specs.declared.id.PatternId.{PatternId}
 use Rattle.rng_model.specs.Patterns.{Definition, HasNoAfter, IsSimpleForm}
