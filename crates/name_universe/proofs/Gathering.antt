@@ -1,6 +1,6 @@
 -- What classes mention, class by class.
 use Rattle.std.proofs.Common.{◌≡◌, ℕ, zero, suc, ◌+◌, ◌<◌, ◌≤◌, ◌⊎◌, inl, inr, ◌↔◌, List, [], ◌∷◌, ◌++◌, length, take, get_or, refl, sym, ◌∙◌, ap, subst, arith, Contains, Some, slice_get}
-use Rattle.std.proofs.lemmas.List.{take_more}
+use Rattle.std.proofs.lemmas.List.{take_more, take_all}
 use Rattle.std.proofs.lemmas.List.Elements.{Contains-push_cases, Contains-append_left, Contains-append_right, Contains-append_cases, Contains-push}
 use Rattle.rng_model.specs.Texts.{Text}
 use Rattle.rng_model.specs.Names.{Name}
@@ -102,7 +102,7 @@ some_at [] k h = absurd (omega arith)
 some_at (x ∷ es) zero h = refl
 some_at (x ∷ es) (suc k) h = some_at es k (omega arith)
 
-earlier_or_this : (d k : ℕ) → d < k + 1 → (d < k) ⊎ (d ≡ k)
+pub earlier_or_this : (d k : ℕ) → d < k + 1 → (d < k) ⊎ (d ≡ k)
 earlier_or_this zero zero h = inr refl
 earlier_or_this zero (suc k) h = inl (omega arith)
 earlier_or_this (suc d) zero h = absurd (omega arith)
@@ -158,3 +158,9 @@ pub number_in : (ids : List ClassId) (k : ℕ) (d : ClassId) → k < length ids 
 number_in [] k d h = absurd (omega arith)
 number_in (x ∷ ids) zero d h = member_first x ids
 number_in (x ∷ ids) (suc k) d h = member_later x (get_or ids k d) ids (number_in ids k d (omega arith))
+
+pub no_number : (s : Stored) (ids : List ClassId) (c : Class) → HasClass s (take 0 ids) c → ⊥
+no_number s ids c (x, m, e) = member_none x m
+
+pub all_numbers : (s : Stored) (ids : List ClassId) (k : ℕ) → length ids ≤ k → (D : Class → Type 0) → ((c : Class) → HasClass s ids c ↔ D c) → (c : Class) → HasClass s (take k ids) c ↔ D c
+all_numbers s ids k long D each = subst (λ (ys : List ClassId). (c : Class) → HasClass s ys c ↔ D c) (sym (take_all k ids long)) each

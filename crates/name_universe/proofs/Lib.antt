@@ -10,3 +10,8 @@ pub mod Tables
 pub mod Finding
 pub mod Standing
 pub mod Gathering
+pub mod Places
+pub mod Splitting
+pub mod Sides
+pub mod Parting
+pub mod Renumbering

@@ -1,4 +1,5 @@
 pub mod Named
+pub mod Partitions
 pub mod Sets
 pub mod Tables
 pub mod PartNames

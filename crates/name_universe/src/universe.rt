@@ -67,6 +67,20 @@ impl Universe {
         self.attributes.list()
     }
 
+    /// The table of the names for elements.
+    pub(crate) fn element_names(&self) -> &Names
+        ensures { result.now ≡ self.now.elements }
+    {
+        &self.elements
+    }
+
+    /// The table of the names for attributes.
+    pub(crate) fn attribute_names(&self) -> &Names
+        ensures { result.now ≡ self.now.attributes }
+    {
+        &self.attributes
+    }
+
     /// The origin of the element name at a position.
     pub fn element_origin(&self, position: usize) -> Origin
         requires { position < length self.now.elements.names }
