@@ -1,20 +1,23 @@
--- Each way in which a listing ends.
+-- Each way in which a run ends.
 use Rattle.std.proofs.Common.{◌≡◌, ◌⊎◌, inl, inr, ℕ, ◌+◌, List, [], ◌∷◌, refl, sym, arith}
 use Rattle.std.specs.Prelude.{Option, None, Some, IfSome}
 use Rattle.std.specs.Io.KnownBytes.{Keeps, Appends}
 use Rattle.std.proofs.lemmas.List.{append-nil}
 use Rattle.rng_model.specs.Texts.{Text}
+use Rattle.rng_model.specs.Patterns.{Schema}
 use Rattle.outside.specs.Counts.{Rose, RisesAtMost}
 use Rattle.outside.specs.Devices.{Shelved, bytes_of, length_of, IsMissing, AreBytesOf, IsLonger, IsFrontOf, AppendsFront}
 use Rattle.list_command.specs.declared.outcome.Outcome.{Outcome}
 use Rattle.list_command.specs.declared.outcome.SchemaFault.{SchemaFault}
-use Rattle.list_command.specs.Words.{HasForm}
-use Rattle.list_command.specs.Requests.{plain_listing}
+use Rattle.list_command.specs.Words.{Request, HasForm}
+use Rattle.list_command.specs.Requests.{plain_listing, plain_universe, request_of}
 use Rattle.list_command.specs.Reading.{Reads, calls_for}
-use Rattle.list_command.specs.Owed.{Owes}
-use Rattle.list_command.specs.Accepting.{Refuses}
-use Rattle.list_command.specs.Runs.{OwesFor, IsFrontOfOwed, EndsAsOwed, IsReadFaultOwed, CallsAsNeeded, MissesAsOwed}
-use Rattle.list_command.specs.declared.words.Listing.{Listing}
+use Rattle.list_command.specs.Owed.{Owes, OwesAccepted, IsListable, HasFile, schema_file}
+use Rattle.rng_model.specs.Universe.{Lists, AreLists}
+use Rattle.event_lines.specs.Parts.{universe_text}
+use Rattle.list_command.specs.Accepting.{Refuses, Accepts}
+use Rattle.list_command.specs.Runs.{OwesFor, IsFrontOfOwed, EndsAsOwed, EndsUnread, EndsRead, IsReadFaultOwed, CallsAsNeeded, MissesAsOwed, CallsAsAsked}
+use Rattle.list_command.specs.declared.words.CommandLine.{CommandLine}
 use Rattle.list_command.proofs.Owing.{IsOwed, owed_meaning}
 
 -- nothing was written
@@ -30,41 +33,43 @@ keeps_taken (Some xs) = refl
 nothing_of_owed : (words : List Text) (files : Shelved) → IsFrontOfOwed words files []
 nothing_of_owed words files = λ needed outcome bytes o. (bytes, refl)
 
-module _ (words : List Text) (n : ℕ) (file : Text) (form : HasForm words (plain_listing n file)) where
-  -- a missing file
-  pub owes_missing : (told : Option Shelved) → IsMissing told file → IsReadFaultOwed words told
-  owes_missing None none = elim none [ ]
-  owes_missing (Some files) none = (file ∷ [], Owes.missing form refl (Reads.missing none))
+-- the reading of a file ends
+module _ (file : Text) (files : Shelved) (reads reads_now : ℕ) where
+  pub unread_memory : EndsUnread file files reads reads_now Outcome.OutOfMemory
+  unread_memory words request form has taken writes = EndsAsOwed.out_of_memory [] form (nothing_of_owed words files) (appends_nothing taken)
 
-  alone : (files : Shelved) → calls_for files (file ∷ []) ≡ length_of files file + 2
-  alone files = omega arith
+  pub unread_fault : (told : Option Shelved) (more : Type 0) → told ≡ Some files → Rose reads reads_now ⊎ (IsMissing told file × more) →
+      EndsUnread file files reads reads_now Outcome.ReadFault
+  unread_fault told more is (inl rose) words request form has taken writes = EndsAsOwed.read_fault rose (keeps_taken taken)
+  unread_fault told more is (inr (none, _)) words request form has taken writes =
+      let missing : bytes_of files file ≡ None = rw is at none in
+      EndsAsOwed.owed (Owes.missing form has (Reads.missing missing)) (appends_nothing taken)
 
-  -- the calls are those of one file
-  pub calls_as_needed : (told : Option Shelved) (calls calls_now : Option ℕ) → IfSome told (λ files. RisesAtMost (length_of files file + 2) calls calls_now) →
-      CallsAsNeeded words told calls calls_now
-  calls_as_needed None calls calls_now h = tt
-  calls_as_needed (Some files) calls calls_now h = λ needed outcome bytes o. go (owed_meaning n file form o)
-    where
-      go : {needed : List Text} {outcome : Outcome} {bytes : List ℕ} → IsOwed n file files needed outcome bytes → RisesAtMost (calls_for files needed) calls calls_now
-      go (IsOwed.missing none) = rw (alone files) h
-      go (IsOwed.refused is fault) = rw (alone files) h
-      go (IsOwed.accepted is accepts lists owes) = rw (alone files) h
+  pub unread_refused : (fault : SchemaFault) (bytes : List ℕ) (outcome : Outcome) → bytes_of files file ≡ Some bytes → Refuses bytes fault →
+      (outcome ≡ Outcome.SchemaRefused fault file) ⊎ (outcome ≡ Outcome.OutOfMemory) → EndsUnread file files reads reads_now outcome
+  unread_refused fault bytes outcome held refuses (inl is) words request form has taken writes =
+      rw is (EndsAsOwed.owed (Owes.refused form has (Reads.refused held refuses)) (appends_nothing taken))
+  unread_refused fault bytes outcome held refuses (inr is) words request form has taken writes = rw is (unread_memory words request form has taken writes)
 
-  module _ (files : Shelved) (taken : Option (List ℕ)) (reads reads_now writes writes_now : ℕ) where
-    pub ends_without_memory : EndsAsOwed words files taken taken reads reads_now writes writes_now Outcome.OutOfMemory
-    ends_without_memory = EndsAsOwed.out_of_memory [] form (nothing_of_owed words files) (appends_nothing taken)
+-- a file that isn't held is owed a read fault
+owes_missing : (words : List Text) (request : Request) (file : Text) (told : Option Shelved) → HasForm words request → HasFile request.command file → IsMissing told file → IsReadFaultOwed words told
+owes_missing words request file None form has none = elim none [ ]
+owes_missing words request file (Some files) form has none = (file ∷ [], Owes.missing form has (Reads.missing none))
 
-    pub ends_unread : (told : Option Shelved) (more : Type 0) → told ≡ Some files → Rose reads reads_now ⊎ (IsMissing told file × more) →
-        EndsAsOwed words files taken taken reads reads_now writes writes_now Outcome.ReadFault
-    ends_unread told more is (inl rose) = EndsAsOwed.read_fault rose (keeps_taken taken)
-    ends_unread told more is (inr (none, _)) =
-        let missing : bytes_of files file ≡ None = rw is at none in
-        EndsAsOwed.owed (Owes.missing form refl (Reads.missing missing)) (appends_nothing taken)
+-- the calls are those of one file
+calls_as_needed : (words : List Text) (request : Request) (file : Text) (told : Option Shelved) (calls calls_now : Option ℕ) → HasForm words request → HasFile request.command file →
+    IfSome told (λ files. RisesAtMost (length_of files file + 2) calls calls_now) → CallsAsNeeded words told calls calls_now
+calls_as_needed words request file None calls calls_now form has h = tt
+calls_as_needed words request file (Some files) calls calls_now form has h = λ needed outcome bytes o. go (rw (← has) at h) (owed_meaning request form o)
+  where
+    alone : (name : Text) → calls_for files (name ∷ []) ≡ length_of files name + 2
+    alone name = omega arith
 
-    pub ends_refused : (fault : SchemaFault) (bytes : List ℕ) (outcome : Outcome) → bytes_of files file ≡ Some bytes → Refuses bytes fault →
-        (outcome ≡ Outcome.SchemaRefused fault file) ⊎ (outcome ≡ Outcome.OutOfMemory) → EndsAsOwed words files taken taken reads reads_now writes writes_now outcome
-    ends_refused fault bytes outcome held refuses (inl is) = rw is (EndsAsOwed.owed (Owes.refused form refl (Reads.refused held refuses)) (appends_nothing taken))
-    ends_refused fault bytes outcome held refuses (inr is) = rw is ends_without_memory
+    go : {needed : List Text} {outcome : Outcome} {bytes : List ℕ} → RisesAtMost (length_of files (schema_file request.command) + 2) calls calls_now →
+        IsOwed request files needed outcome bytes → RisesAtMost (calls_for files needed) calls calls_now
+    go h (IsOwed.missing none) = rw (alone (schema_file request.command)) h
+    go h (IsOwed.refused is fault) = rw (alone (schema_file request.command)) h
+    go h (IsOwed.accepted is accepts owes) = rw (alone (schema_file request.command)) h
 
 -- words and files owe one thing
 abbrev pub OneIsOwed : Type 0
@@ -97,13 +102,33 @@ too_long told files file is long = let h : IsLonger (Some files) file 1048576 = 
 pub held_bytes : (told : Option Shelved) (files : Shelved) (file : Text) (bytes : List ℕ) → told ≡ Some files → AreBytesOf told file bytes → bytes_of files file ≡ Some bytes
 held_bytes told files file bytes is h = rw is at h
 
--- a read fault, whatever the words were
-pub read_fault_owed : (listing : Listing) (told : Option Shelved) (reads reads_now : ℕ) (more : Type 0) →
-    Rose reads reads_now ⊎ (IsMissing told listing.file.now × more) → Rose reads reads_now ⊎ MissesAsOwed listing told
-read_fault_owed l told reads reads_now more (inl rose) = inl rose
-read_fault_owed l told reads reads_now more (inr (none, _)) = inr (λ words form. owes_missing words l.size l.file.now form told none)
+-- over an accepted schema
+module _ (g : Schema) (request : Request) (taken : Option (List ℕ)) (writes : ℕ) where
+  pub read_memory : EndsRead g request taken taken writes writes Outcome.OutOfMemory
+  read_memory words files bytes form held accepts reads reads_now = EndsAsOwed.out_of_memory [] form (nothing_of_owed words files) (appends_nothing taken)
 
-pub misses_owed : (listing : Listing) (told : Option Shelved) (misses misses_now : ℕ) (a b c : Type 0) →
-    (misses_now ≡ misses) ⊎ (a × IsMissing told listing.file.now × b × c) → (misses_now ≡ misses) ⊎ MissesAsOwed listing told
-misses_owed l told misses misses_now a b c (inl same) = inl same
-misses_owed l told misses misses_now a b c (inr (_, none, _, _)) = inr (λ words form. owes_missing words l.size l.file.now form told none)
+-- a listing that isn't possible yet
+pub read_not_yet : (g : Schema) (n : ℕ) (file : Text) (taken : Option (List ℕ)) (writes : ℕ) (outcome : Outcome) → (IsListable g → ⊥) →
+    (outcome ≡ Outcome.SchemaRefused SchemaFault.NotYet file) ⊎ (outcome ≡ Outcome.OutOfMemory) → EndsRead g (plain_listing n file) taken taken writes writes outcome
+read_not_yet g n file taken writes outcome other (inl is) words files bytes form held accepts reads reads_now =
+    rw is (EndsAsOwed.owed (Owes.accepted form refl (Reads.accepted held accepts) (OwesAccepted.not_yet other) refl) (appends_nothing taken))
+read_not_yet g n file taken writes outcome other (inr is) words files bytes form held accepts reads reads_now =
+    rw is (read_memory g (plain_listing n file) taken writes words files bytes form held accepts reads reads_now)
+
+-- what was asked for: no such file, and the calls
+module _ (asked : CommandLine) (file : Text) (same : file ≡ schema_file (request_of asked).command) where
+  misses_as_owed : (told : Option Shelved) → IsMissing told file → MissesAsOwed asked told
+  misses_as_owed told none words form = owes_missing words (request_of asked) file told form (sym same) none
+
+  pub or_missing : {A : Type 0} (told : Option Shelved) → A ⊎ IsMissing told file → A ⊎ MissesAsOwed asked told
+  or_missing told (inl a) = inl a
+  or_missing told (inr none) = inr (misses_as_owed told none)
+
+  pub calls_as_asked : (told : Option Shelved) (calls calls_now : Option ℕ) → IfSome told (λ files. RisesAtMost (length_of files file + 2) calls calls_now) → CallsAsAsked asked told calls calls_now
+  calls_as_asked told calls calls_now h words form = calls_as_needed words (request_of asked) file told calls calls_now form (sym same) h
+
+-- the universe of an accepted schema
+pub owes_universe : (words : List Text) (file : Text) (files : Shelved) (bytes : List ℕ) (g : Schema) (u : Lists) →
+    HasForm words (plain_universe file) → bytes_of files file ≡ Some bytes → Accepts bytes g → AreLists g 1 [] u →
+    OwesFor words files (file ∷ []) Outcome.Done (universe_text u)
+owes_universe words file files bytes g u form held accepts are = Owes.accepted form refl (Reads.accepted held accepts) (OwesAccepted.universe are refl) refl

@@ -1,8 +1,10 @@
 pub mod Numbers
 pub mod Forms
 pub mod Texts
-pub mod Elements
+pub mod Refusing
 pub mod Owing
 pub mod Root
 pub mod Exits
 pub mod Single
+pub mod OneUniverse
+pub mod NamedParts

@@ -23,34 +23,9 @@ pub same_text : (s t : Skeleton) → events s ≡ events t → skeleton_text s �
 unfolding skeleton_text
 same_text s t e = ap (λ es. flat_map event_line es ++ codes "\n") e
 
-in_head : (x : Skeleton) (xs : List Skeleton) → Contains (x ∷ xs) x
-in_head x xs = (0, omega arith, refl)
-
-some_not_none : {k : ℕ} → Some k ≡ None → ⊥
-some_not_none e = cc
-
 -- what the laws of the schema say of its lists
 module _ (name : Name) (u : Lists) (few : (m n : ℕ) → 4 ≤ n → ReachesMore (one_element name) u m n → ⊥)
     (n : ℕ) (alone : (s : Skeleton) → IsListed (one_element name) u n s ↔ (s ≡ root name)) where
-  -- no size has too many states
-  no_stop : (stop : Option ℕ) → HasStop (one_element name) u 1 n 100000 stop → stop ≡ None
-  no_stop None h = refl
-  no_stop (Some m) h = absurd (few m 100000 (omega arith) h.more)
-
-  -- the skeletons to write are the root alone
-  queue_is : (skeleton_cmp (root name) (root name) ≡ Less → ⊥) → (queue : List Skeleton) → IsPending (one_element name) u n None None queue → queue ≡ root name ∷ []
-  unfolding IsStrictlySortedBy
-  queue_is once [] p = let k = (p.each (root name)).1 ((alone (root name)).1 refl, tt, tt) in absurd (nothing k)
-    where
-      nothing : Contains {X = Skeleton} [] (root name) → ⊥
-      nothing (k, lt, e) = omega arith
-  queue_is once (x ∷ []) p = ap (λ y. y ∷ []) ((alone x).0 ((p.each x).0 (in_head x [])).0)
-  queue_is once (x ∷ y ∷ rest) p =
-      let first = (alone x).0 ((p.each x).0 (in_head x (y ∷ rest))).0 in
-      let second = (alone y).0 ((p.each y).0 (1, omega arith, refl)).0 in
-      let less : skeleton_cmp x y ≡ Less = p.ascending.0.0 in
-      absurd (once (rw (first, second) at less))
-
   root_pending : IsPending (one_element name) u n None None (root name ∷ [])
   unfolding IsStrictlySortedBy
   root_pending = record { ascending = (tt, tt); each = λ s. (λ h. ((alone s).1 (to s h), tt, tt), λ h. (0, omega arith, sym ((alone s).0 h.0))) }
@@ -67,14 +42,3 @@ module _ (name : Name) (u : Lists) (few : (m n : ℕ) → 4 ≤ n → ReachesMor
     pending = root_pending;
     ends = Ends.done tt (sym (append-nil (skeleton_text (root name))));
   }
-
-  ends_root : {queue : List Skeleton} {stop k : Option ℕ} {outcome : Outcome} {bytes : List ℕ} → stop ≡ None → queue ≡ root name ∷ [] → Ends queue stop k outcome bytes →
-      (outcome ≡ Outcome.Done) × (bytes ≡ skeleton_text (root name))
-  ends_root s q (Ends.done short e) = (refl, e ∙ ap lines q ∙ append-nil (skeleton_text (root name)))
-
-  pub only_root : (skeleton_cmp (root name) (root name) ≡ Less → ⊥) → (file : Text) {outcome : Outcome} {bytes : List ℕ} →
-      OwesListing (one_element name) u n None 1 (plain_listing n file) outcome bytes → (outcome ≡ Outcome.Done) × (bytes ≡ skeleton_text (root name))
-  only_root once file o =
-      let stop = no_stop o.stop o.has_stop in
-      let pending : IsPending (one_element name) u n None None o.queue = rw stop at o.pending in
-      ends_root stop (queue_is once o.queue pending) o.ends

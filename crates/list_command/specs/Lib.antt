@@ -3,7 +3,6 @@ pub mod Status
 pub mod Reading
 pub mod Pending
 pub mod Owed
-pub mod OneElementTrees
 pub mod Accepting
 pub mod Refusals
 pub mod Requests

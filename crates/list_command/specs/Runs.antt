@@ -3,15 +3,16 @@ use Rattle.std.specs.Prelude.{◌≡◌, ℕ, ◌⊎◌, ⊤, List, [], Option, 
 use Rattle.std.specs.Io.KnownBytes.{Keeps, Appends}
 use Rattle.rng_model.specs.Texts.{Text}
 use Rattle.outside.specs.Counts.{Rose, RisesAtMost}
-use Rattle.outside.specs.Devices.{Shelved, IsFrontOf, AppendsFront}
+use Rattle.rng_model.specs.Patterns.{Schema}
+use Rattle.outside.specs.Devices.{Shelved, bytes_of, IsFrontOf, AppendsFront}
 use Rattle.list_command.specs.declared.outcome.Outcome.{Outcome}
 use Rattle.list_command.specs.Words.{Request, HasForm}
 use Rattle.list_command.specs.Reading.{calls_for}
-use Rattle.list_command.specs.Owed.{Owes}
+use Rattle.list_command.specs.Owed.{Owes, schema_file, HasFile}
 use Rattle.list_command.specs.Accepting.{Refuses, Accepts}
 use Rattle.list_command.specs.Status.{fault_line}
 use Rattle.list_command.specs.Requests.{request_of}
-use Rattle.list_command.specs.declared.words.Listing.{Listing}
+use Rattle.list_command.specs.declared.words.CommandLine.{CommandLine}
 
 -- what these words owe over these files
 abbrev pub OwesFor : List Text → Shelved → List Text → Outcome → List ℕ → Type 0
@@ -62,14 +63,31 @@ WritesLine (Some line) taken taken_now faults faults_now =
 abbrev pub WritesFaultLine : Outcome → Option (List ℕ) → Option (List ℕ) → ℕ → ℕ → Type 0
 WritesFaultLine outcome taken taken_now faults faults_now = WritesLine (fault_line outcome) taken taken_now faults faults_now
 
--- The same of a listing that was asked for, for all words of its form.
-module _ (listing : Listing) where
-  abbrev pub ListsAsOwed : Shelved → Option (List ℕ) → Option (List ℕ) → ℕ → ℕ → ℕ → ℕ → Outcome → Type 0
-  ListsAsOwed files taken taken_now reads reads_now writes writes_now outcome =
-      (words : List Text) → HasForm words (request_of listing) → EndsAsOwed words files taken taken_now reads reads_now writes writes_now outcome
+-- A run whose reading ended with this outcome, for all words that ask for this file: nothing is written.
+abbrev pub EndsUnread : Text → Shelved → ℕ → ℕ → Outcome → Type 0
+EndsUnread file files reads reads_now outcome =
+    (words : List Text) (request : Request) → HasForm words request → HasFile request.command file →
+    (taken : Option (List ℕ)) (writes : ℕ) → EndsAsOwed words files taken taken reads reads_now writes writes outcome
+
+-- A run over an accepted schema, for all words and files that bring it.
+abbrev pub EndsRead : Schema → Request → Option (List ℕ) → Option (List ℕ) → ℕ → ℕ → Outcome → Type 0
+EndsRead g request taken taken_now writes writes_now outcome =
+    (words : List Text) (files : Shelved) (bytes : List ℕ) →
+    HasForm words request → bytes_of files (schema_file request.command) ≡ Some bytes → Accepts bytes g →
+    (reads reads_now : ℕ) → EndsAsOwed words files taken taken_now reads reads_now writes writes_now outcome
+
+-- the schema's bytes in the files, and the schema
+abbrev pub IsRead : Text → Shelved → Schema → Type 0
+IsRead file files g = (bytes : List ℕ) × (bytes_of files file ≡ Some bytes) × Accepts bytes g
+
+-- the same of what was asked for, for all words of its form
+module _ (asked : CommandLine) where
+  abbrev pub AnswersAsOwed : Shelved → Option (List ℕ) → Option (List ℕ) → ℕ → ℕ → ℕ → ℕ → Outcome → Type 0
+  AnswersAsOwed files taken taken_now reads reads_now writes writes_now outcome =
+      (words : List Text) → HasForm words (request_of asked) → EndsAsOwed words files taken taken_now reads reads_now writes writes_now outcome
 
   abbrev pub MissesAsOwed : Option Shelved → Type 0
-  MissesAsOwed files = (words : List Text) → HasForm words (request_of listing) → IsReadFaultOwed words files
+  MissesAsOwed files = (words : List Text) → HasForm words (request_of asked) → IsReadFaultOwed words files
 
-  abbrev pub CallsForListing : Option Shelved → Option ℕ → Option ℕ → Type 0
-  CallsForListing files calls calls_now = (words : List Text) → HasForm words (request_of listing) → CallsAsNeeded words files calls calls_now
+  abbrev pub CallsAsAsked : Option Shelved → Option ℕ → Option ℕ → Type 0
+  CallsAsAsked files calls calls_now = (words : List Text) → HasForm words (request_of asked) → CallsAsNeeded words files calls calls_now

@@ -3,7 +3,7 @@ use Rattle.std.specs.Prelude.{ℕ, List, ◌++◌, Option, Some, None, codes, de
 use Rattle.list_command.specs.declared.outcome.Outcome.{Outcome}
 use Rattle.list_command.specs.declared.outcome.Outcome.TheVariants.{Done, Words, SchemaRefused, ReadFault, WriteFault, OutOfMemory}
 use Rattle.list_command.specs.declared.outcome.SchemaFault.{SchemaFault}
-use Rattle.list_command.specs.declared.outcome.SchemaFault.TheVariants.{BadUtf8, BadCharacter, OpenLiteral, BadEscape, EscapeRefused, LiteralTooLong, NameTooLong, TooLong, NotYet, Syntax, TooDeep, Include, External, Inherit, List as ListFault, ForeignType, Parameter}
+use Rattle.list_command.specs.declared.outcome.SchemaFault.TheVariants.{BadUtf8, BadCharacter, OpenLiteral, BadEscape, EscapeRefused, LiteralTooLong, NameTooLong, TooLong, NotYet, Syntax, TooDeep, Include, External, Inherit, List as ListFault, ForeignType, Parameter, UnboundPrefix, PrefixTwice, ReservedPrefix, ClassConstraint, XmlnsAttribute, NoStart, UndefinedName, ParentOutside, CombineMixed, DefinedTwice, Loop, ExpandedTooDeep, Restriction, BadValue}
 
 abbrev pub status_of : Outcome → ℕ
 status_of Done = 0
@@ -32,6 +32,20 @@ schema_fault_text (Inherit place) = codes "23 Inherit at " ++ decimal place
 schema_fault_text (ListFault place) = codes "24 List at " ++ decimal place
 schema_fault_text (ForeignType place) = codes "25 ForeignType at " ++ decimal place
 schema_fault_text (Parameter place) = codes "26 Parameter at " ++ decimal place
+schema_fault_text (UnboundPrefix place) = codes "31 UnboundPrefix at " ++ decimal place
+schema_fault_text (PrefixTwice place) = codes "32 PrefixTwice at " ++ decimal place
+schema_fault_text (ReservedPrefix place) = codes "33 ReservedPrefix at " ++ decimal place
+schema_fault_text (ClassConstraint place) = codes "34 ClassConstraint at " ++ decimal place
+schema_fault_text (XmlnsAttribute place) = codes "35 XmlnsAttribute at " ++ decimal place
+schema_fault_text NoStart = codes "36 NoStart"
+schema_fault_text (UndefinedName place) = codes "37 UndefinedName at " ++ decimal place
+schema_fault_text (ParentOutside place) = codes "38 ParentOutside at " ++ decimal place
+schema_fault_text (CombineMixed place) = codes "39 CombineMixed at " ++ decimal place
+schema_fault_text (DefinedTwice place) = codes "40 DefinedTwice at " ++ decimal place
+schema_fault_text (Loop place) = codes "41 Loop at " ++ decimal place
+schema_fault_text ExpandedTooDeep = codes "42 ExpandedTooDeep"
+schema_fault_text (Restriction rule) = codes "43 Restriction rule " ++ decimal rule
+schema_fault_text (BadValue place) = codes "44 BadValue at " ++ decimal place
 
 -- What goes to `err`, where one schema file was opened: nothing for a run that did its work.
 unfoldable pub fault_line : Outcome → Option (List ℕ)

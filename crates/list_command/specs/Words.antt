@@ -11,6 +11,7 @@ pub record IsNumber (low high : ℕ) (word : Text) (n : ℕ) : Type 0 where
 -- A command with its words. More commands are more constructors.
 pub data Command : Type 0 where
   list : (n : ℕ) (file : Text) → Command
+  universe : (file : Text) → Command
 
 -- What a run is asked for: a command, a page limit, a limit of states, a number of fresh names in each namespace, and extra texts.
 pub record Request : Type 0 where
@@ -23,6 +24,7 @@ pub record Request : Type 0 where
 -- the words of a command, without options
 pub data AreCommand : List Text → Command → Type 0 where
   list : {w file : Text} {n : ℕ} → IsNumber 1 64 w n → AreCommand (codes "list" ∷ w ∷ file ∷ []) (Command.list n file)
+  universe : {file : Text} → AreCommand (codes "universe" ∷ file ∷ []) (Command.universe file)
 
 -- No option has a word so far: no page limit
 pub data ArePage : List Text → Option ℕ → Type 0 where

@@ -1,14 +1,18 @@
 //! The commands: what a run is asked for, what it owes and how it ends.
 #![tactic(auto)]
 
+mod answering;
 mod fault_lines;
 mod laws;
 mod line;
 mod listing;
+mod one_element;
 mod outcome;
 mod schema;
+mod schema_faults;
 #[cfg(test)]
 mod tests;
+mod universe;
 mod whole_run;
 mod words;
 

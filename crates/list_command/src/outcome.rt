@@ -1,7 +1,8 @@
 // How a run ends.
-ghost use Rattle.std.specs.Prelude.{◌≡◌};
+ghost use Rattle.std.specs.Prelude.{◌≡◌, ◌⊎◌};
 ghost use Rattle.list_command.specs.Status.{status_of};
 
+use std::alloc::Global;
 use text_atoms::Text;
 
 /// Why a schema is refused. A place counts the bytes before it.
@@ -41,6 +42,34 @@ pub enum SchemaFault {
     ForeignType { at: usize },
     /// The first parameter of a datatype.
     Parameter { at: usize },
+    /// A prefix of a name class or of a datatype that isn't bound.
+    UnboundPrefix { at: usize },
+    /// A declaration that binds what an earlier one binds.
+    PrefixTwice { at: usize },
+    /// A declaration of `xml`, `xmlns` or `xsd`, or of their namespaces, that isn't theirs.
+    ReservedPrefix { at: usize },
+    /// A wildcard in an except that may not have it.
+    ClassConstraint { at: usize },
+    /// An attribute whose name class has `xmlns` or a name of its namespace.
+    XmlnsAttribute { at: usize },
+    /// A grammar without a start.
+    NoStart,
+    /// A reference to a name that its grammar doesn't define.
+    UndefinedName { at: usize },
+    /// A `parent` where there is no grammar outside.
+    ParentOutside { at: usize },
+    /// A start or a name whose definitions are combined in both ways.
+    CombineMixed { at: usize },
+    /// A start or a name that `=` defines twice.
+    DefinedTwice { at: usize },
+    /// A reference that leads back to itself without an element between.
+    Loop { at: usize },
+    /// A pattern or a name class of the simple form that is deeper than 1,024 levels.
+    ExpandedTooDeep,
+    /// The least of the rules that the simple form breaks, by its number from 1 to 11 (section Restrictions).
+    Restriction { rule: usize },
+    /// A value that its type doesn't allow; the place of the type.
+    BadValue { at: usize },
 }
 
 /// How a run ends.
@@ -72,5 +101,15 @@ impl Outcome {
             Outcome::WriteFault => 7,
             Outcome::OutOfMemory => 8,
         }
+    }
+}
+
+/// The refusal of the schema in the file, or want of memory.
+pub(crate) fn refused(alloc: Global, fault: SchemaFault, file: &str) -> Outcome
+    ensures { (result ≡ Outcome.SchemaRefused fault file.now) ⊎ (result ≡ Outcome.OutOfMemory) }
+{
+    match String::from_str(alloc, file) {
+        Ok(file) => Outcome::SchemaRefused(fault, Text::from_string(file)),
+        Err(_) => Outcome::OutOfMemory,
     }
 }

@@ -5,8 +5,8 @@ ghost use Rattle.outside.specs.Devices.{Shelved};
 ghost use Rattle.list_command.specs.Words.{HasNoForm};
 ghost use Rattle.list_command.specs.Runs.{EndsAsOwed, IsReadFaultOwed, IsFault, CallsAsNeeded, WritesFaultLine};
 
+use crate::answering::answer;
 use crate::fault_lines::write_fault_line;
-use crate::listing::list;
 use crate::outcome::Outcome;
 use crate::words::read_words;
 use outside::{Shelf, Sink, Steps};
@@ -41,13 +41,13 @@ pub fn run<F: Shelf, O: Sink, E: Sink, L: Ledger>(
     ensures line { WritesFaultLine result (E.taken err.old) (E.taken err.new) (E.faults err.old) (E.faults err.new) }
     ensures ticks { steps.new ≡ steps.old }
 {
-    let outcome = answer(alloc, words.as_slice(), shelf, out);
+    let outcome = obey(alloc, words.as_slice(), shelf, out);
     write_fault_line(&outcome, err);
     outcome
 }
 
 /// Does what the words ask for.
-fn answer<F: Shelf, O: Sink>(alloc: Global, words: &[String], shelf: &mut F, out: &mut O) -> Outcome
+fn obey<F: Shelf, O: Sink>(alloc: Global, words: &[String], shelf: &mut F, out: &mut O) -> Outcome
     ensures owed { (files : Shelved) → F.files shelf.old ≡ Some files →
         EndsAsOwed (map string_bytes words.now) files (O.taken out.old) (O.taken out.new)
         (F.faults shelf.old) (F.faults shelf.new) (O.faults out.old) (O.faults out.new) result }
@@ -61,8 +61,8 @@ fn answer<F: Shelf, O: Sink>(alloc: Global, words: &[String], shelf: &mut F, out
     ensures misses { (F.misses shelf.new ≡ F.misses shelf.old) ⊎ IsReadFaultOwed (map string_bytes words.now) (F.files shelf.old) }
     ensures calls { CallsAsNeeded (map string_bytes words.now) (F.files shelf.old) (F.calls shelf.old) (F.calls shelf.new) }
 {
-    let Some(listing) = read_words(words) else {
+    let Some(asked) = read_words(words) else {
         return Outcome::Words;
     };
-    list(alloc, &listing, shelf, out)
+    answer(alloc, &asked, shelf, out)
 }

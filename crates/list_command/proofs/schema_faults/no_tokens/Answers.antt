@@ -1,6 +1,6 @@
 use Rattle.token_laws.specs.Lexing.{bad_utf8, bad_character, open_literal, bad_escape, escape_refused, literal_too_long, name_too_long}
-use Rattle.list_command.proofs.Elements.{refuses_at}
-use Rattle.list_command.proofs.schema.no_tokens.Goals as goal
+use Rattle.list_command.proofs.Refusing.{refuses_at}
+use Rattle.list_command.proofs.schema_faults.no_tokens.Goals as goal
 
 pub returns-in-BadUtf8 : goal.returns-in-BadUtf8
 returns-in-BadUtf8 c = λ bytes short refusal. refuses_at bad_utf8 c.in-BadUtf8.at bytes short (rw c.in-BadUtf8.is at refusal)

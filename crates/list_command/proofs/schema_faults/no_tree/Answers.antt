@@ -1,6 +1,6 @@
 use Rattle.grammar_laws.specs.Faults.{syntax_error, too_deep}
-use Rattle.list_command.proofs.Elements.{refuses_tree}
-use Rattle.list_command.proofs.schema.no_tree.Goals as goal
+use Rattle.list_command.proofs.Refusing.{refuses_tree}
+use Rattle.list_command.proofs.schema_faults.no_tree.Goals as goal
 
 pub returns-in-Syntax : goal.returns-in-Syntax
 returns-in-Syntax c = λ bytes tokens short lexed refusal. refuses_tree syntax_error c.in-Syntax.at bytes tokens short lexed (rw c.in-Syntax.is at refusal)
