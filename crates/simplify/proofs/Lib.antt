@@ -1,0 +1,2 @@
+pub mod Simplifiable
+pub mod Types

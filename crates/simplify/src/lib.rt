@@ -6,7 +6,7 @@ ghost use Rattle.schema_tree.specs.Features.{HasFeature};
 ghost use Rattle.schema_tree.specs.Files.{full_of};
 ghost use Rattle.schema_tree.specs.Trees.{body_of};
 ghost use Rattle.schema_tree.specs.declared.features.Feature.{Feature};
-ghost use Rattle.simple_form_laws.specs.Faults.{Simple};
+ghost use Rattle.simple_form_laws.specs.Faults.{IsSimplifiable, Simple};
 ghost use Rattle.tree_laws.specs.WholeBodies.{AreDistinct, references_of_body};
 ghost use Rattle.tree_faults.specs.Firsts.{IsClean};
 ghost use Rattle.simplify.specs.Refusals.{IsRefusal, IsFormed};
@@ -44,6 +44,14 @@ pub fn simplify(alloc: Global, full: &Full) -> Result<Schema, SimplifyFault>
     }
 }
 
+// What isn't taken is all that keeps a tree from being simplified.
+fn is_simplifiable(full: &Full)
+    requires { (f : Feature) (at : ℕ) → HasFeature (full_of full.now) f at → ⊥ }
+    ensures { IsSimplifiable (full_of full.now) }
+{
+    let _body = full.body();
+}
+
 // The simple form of a tree that has no fault before loops, and not too deep.
 fn form_of(alloc: Global, full: &Full, names: &Namespaces<'_>) -> Result<Schema, SimplifyFault>
     requires files { names.now ≡ full.now.files }
@@ -53,6 +61,7 @@ fn form_of(alloc: Global, full: &Full, names: &Namespaces<'_>) -> Result<Schema,
     ensures formed { IfOk result (λ r. IsFormed (full_of full.now) r.schema) }
     ensures refused { IfErr result (IsRefusal (full_of full.now)) }
 {
+    is_simplifiable(full);
     let graph = graph(alloc, full, names)?;
     later_faults();
     one_schema();
