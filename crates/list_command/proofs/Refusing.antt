@@ -1,6 +1,6 @@
 -- What refuses a schema, and what is accepted.
 use Rattle.std.proofs.Common.{◌≡◌, ℕ, ◌≤◌, List, length, false, refl, subst, sym}
-use Rattle.std.specs.Prelude.{Some, None}
+use Rattle.std.specs.Prelude.{Some, None, Result, Ok, Err, IfOk}
 use Rattle.rng_model.specs.Patterns.{Schema}
 use Rattle.rng_model.specs.Restrictions.{BreaksNoRule}
 use Rattle.restrictions.specs.Rules.{IsLeastBroken, number_of}
@@ -15,6 +15,8 @@ use Rattle.grammar_laws.specs.Faults.{ParseFault, ParseRefusal}
 use Rattle.tree_laws.specs.WholeBodies.{IsWhole}
 use Rattle.simple_form_laws.specs.Faults as simple
 use Rattle.simple_form_laws.specs.Faults.{SimplifyRefusal, Simple}
+use Rattle.pattern_intern.specs.Schemas.{Numbered}
+use Rattle.list_command.specs.declared.schema.ReadSchemaFault.{ReadSchemaFault}
 use Rattle.schema_tree.specs.Features.{HasFeature}
 use Rattle.schema_tree.specs.Least.{IsLeast, IsFirstFeature}
 use Rattle.schema_tree.specs.declared.features.Feature.{Feature}
@@ -59,3 +61,9 @@ TreesAreWhole = (bytes : List ℕ) (ts : List Placed) (f : File) → Tokens byte
 pub whole_tree : TreesAreWhole → (bytes : List ℕ) (t : Full) → IsTreeOf bytes t → (end : ℕ) × IsWhole end t.body
 whole_tree whole bytes t (tokens, file, tree, same) =
     (length bytes, subst (λ (u : Full). IsWhole (length bytes) u.body) (sym same) (whole bytes tokens file tree.lexed tree.parsed.derives))
+
+-- the schema that is given is the one that was made, and breaks no rule
+pub accepts_given : (bytes : List ℕ) (t : Full) (given : Numbered) (r : Result Numbered ReadSchemaFault) → IsTreeOf bytes t → IsLeast false (HasFeature t) None → Simple t given.schema →
+    IfOk r (λ s. s ≡ given) → IfOk r (λ s. BreaksNoRule given.schema) → IfOk r (λ s. Accepts bytes s.schema)
+accepts_given bytes t given (Ok s) tree none simple same sound = accepts bytes t s.schema tree none (rw same simple) (rw same sound)
+accepts_given bytes t given (Err e) tree none simple same sound = tt

@@ -45,6 +45,7 @@ fn is_empty(pool: &Pool, id: PatternId) -> bool
 }
 
 /// The name, where the class is that of one name.
+#[tactic(auto, using(crate::proofs::NamedParts::named_first))]
 fn single_name(class: &NameClass) -> Option<&Name>
     ensures some { IfSome result (λ name. class_of class.now ≡ one name.now) }
     ensures is_name { IfSome result (λ name. IsName name.now) }

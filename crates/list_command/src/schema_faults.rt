@@ -69,16 +69,34 @@ pub(crate) fn no_form(fault: SimplifyFault) -> ReadSchemaFault
     ensures { (bytes : List ℕ) (full : Full) → IsTakenTree bytes full → simple.IsRefusal full fault → IfRefused (Refuses bytes) result }
 {
     match fault {
-        SimplifyFault::UnboundPrefix { at } => ReadSchemaFault::Refused(SchemaFault::UnboundPrefix { at }),
-        SimplifyFault::PrefixTwice { at } => ReadSchemaFault::Refused(SchemaFault::PrefixTwice { at }),
-        SimplifyFault::ReservedPrefix { at } => ReadSchemaFault::Refused(SchemaFault::ReservedPrefix { at }),
-        SimplifyFault::ClassConstraint { at } => ReadSchemaFault::Refused(SchemaFault::ClassConstraint { at }),
-        SimplifyFault::XmlnsAttribute { at } => ReadSchemaFault::Refused(SchemaFault::XmlnsAttribute { at }),
+        SimplifyFault::UnboundPrefix { at } => ReadSchemaFault::Refused(SchemaFault::UnboundPrefix {
+            at,
+        }),
+        SimplifyFault::PrefixTwice { at } => ReadSchemaFault::Refused(SchemaFault::PrefixTwice {
+            at,
+        }),
+        SimplifyFault::ReservedPrefix { at } => ReadSchemaFault::Refused(
+            SchemaFault::ReservedPrefix { at },
+        ),
+        SimplifyFault::ClassConstraint { at } => ReadSchemaFault::Refused(
+            SchemaFault::ClassConstraint { at },
+        ),
+        SimplifyFault::XmlnsAttribute { at } => ReadSchemaFault::Refused(
+            SchemaFault::XmlnsAttribute { at },
+        ),
         SimplifyFault::NoStart => ReadSchemaFault::Refused(SchemaFault::NoStart),
-        SimplifyFault::UndefinedName { at } => ReadSchemaFault::Refused(SchemaFault::UndefinedName { at }),
-        SimplifyFault::ParentOutside { at } => ReadSchemaFault::Refused(SchemaFault::ParentOutside { at }),
-        SimplifyFault::CombineMixed { at } => ReadSchemaFault::Refused(SchemaFault::CombineMixed { at }),
-        SimplifyFault::DefinedTwice { at } => ReadSchemaFault::Refused(SchemaFault::DefinedTwice { at }),
+        SimplifyFault::UndefinedName { at } => ReadSchemaFault::Refused(SchemaFault::UndefinedName {
+            at,
+        }),
+        SimplifyFault::ParentOutside { at } => ReadSchemaFault::Refused(SchemaFault::ParentOutside {
+            at,
+        }),
+        SimplifyFault::CombineMixed { at } => ReadSchemaFault::Refused(SchemaFault::CombineMixed {
+            at,
+        }),
+        SimplifyFault::DefinedTwice { at } => ReadSchemaFault::Refused(SchemaFault::DefinedTwice {
+            at,
+        }),
         SimplifyFault::Loop { at } => ReadSchemaFault::Refused(SchemaFault::Loop { at }),
         SimplifyFault::ExpandedTooDeep => ReadSchemaFault::Refused(SchemaFault::ExpandedTooDeep),
         SimplifyFault::BadValue { at } => ReadSchemaFault::Refused(SchemaFault::BadValue { at }),

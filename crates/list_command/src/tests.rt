@@ -144,15 +144,22 @@ fn rows(rt: HostRuntime) -> Result<(), AllocError> {
             "",
         ),
         ("list 1 f", "element a { text }", 3, "", NOT_YET),
-        ("list 1 f", "element a:b { empty }", 3, "", NOT_YET),
-        ("list 1 f", "start = element a { empty }", 3, "", NOT_YET),
         ("list 1 f", "element a | b { empty }", 3, "", NOT_YET),
-        ("list 1 f", "", 3, "", NOT_YET),
+        ("list 1 f", "start = a a = element a { empty }", 0, TEXT, ""),
+        (
+            "list 1 f",
+            "namespace b = \"u\" element b:a { empty }",
+            0,
+            "({u}a\n>\n)\n\n",
+            "",
+        ),
         ("list 1 g", SCHEMA, 6, "", "read\n"),
         ("list 0 f", SCHEMA, 2, "", "words\n"),
         ("list 65 f", SCHEMA, 2, "", "words\n"),
         ("list 01 f", SCHEMA, 2, "", "words\n"),
         ("list 1", SCHEMA, 2, "", "words\n"),
+        ("universe g", SCHEMA, 6, "", "read\n"),
+        ("universe 1 f", SCHEMA, 2, "", "words\n"),
         ("states 1 f", SCHEMA, 2, "", "words\n"),
         ("", SCHEMA, 2, "", "words\n"),
     ];
@@ -220,6 +227,77 @@ fn grammar_faults_and_features(rt: HostRuntime) -> Result<(), AllocError> {
     ];
     for (schema, err) in rows {
         let holds = gives(rt.alloc(), "list 1 f", schema.as_bytes(), 3, "", err)?;
+        assert!(rt; holds);
+    }
+    Ok(())
+}
+
+#[test]
+fn simplification_faults(rt: HostRuntime) -> Result<(), AllocError> {
+    let rows = [
+        ("", "schema 36 NoStart\n"),
+        ("element p:a { empty }", "schema 31 UnboundPrefix at 8\n"),
+        (
+            "namespace p = \"u\" namespace p = \"v\" element a { empty }",
+            "schema 32 PrefixTwice at 18\n",
+        ),
+        (
+            "namespace xml = \"u\" element a { empty }",
+            "schema 33 ReservedPrefix at 0\n",
+        ),
+        (
+            "element * - * { empty }",
+            "schema 34 ClassConstraint at 12\n",
+        ),
+        (
+            "element a { attribute xmlns { text } }",
+            "schema 35 XmlnsAttribute at 22\n",
+        ),
+        ("start = a", "schema 37 UndefinedName at 8\n"),
+        ("start = parent a", "schema 38 ParentOutside at 8\n"),
+        (
+            "start |= element a { empty } start &= element b { empty }",
+            "schema 39 CombineMixed at 29\n",
+        ),
+        (
+            "start = element a { empty } start = element b { empty }",
+            "schema 40 DefinedTwice at 28\n",
+        ),
+        (
+            "start = a a = b b = a | element c { empty }",
+            "schema 41 Loop at 14\n",
+        ),
+        (
+            "element a { xsd:positiveInteger \"0\" }",
+            "schema 44 BadValue at 12\n",
+        ),
+        (
+            "element a { text & text }",
+            "schema 43 Restriction rule 11\n",
+        ),
+    ];
+    for (schema, err) in rows {
+        let holds = gives(rt.alloc(), "list 1 f", schema.as_bytes(), 3, "", err)?;
+        assert!(rt; holds);
+    }
+    Ok(())
+}
+
+#[test]
+fn universes(rt: HostRuntime) -> Result<(), AllocError> {
+    let rows = [
+        (
+            "element * - a { empty }",
+            "Ea\nEx\nE{urn:x}x\nA{urn:x}x\nTt\n",
+        ),
+        ("element x { empty }", "Ex\nEx1\nE{urn:x}x\nA{urn:x}x\nTt\n"),
+        (
+            "element a { xsd:integer }",
+            "Ea\nEx\nE{urn:x}x\nA{urn:x}x\nT-1\nT0\nT1\nTt\n",
+        ),
+    ];
+    for (schema, out) in rows {
+        let holds = gives(rt.alloc(), "universe f", schema.as_bytes(), 0, out, "")?;
         assert!(rt; holds);
     }
     Ok(())

@@ -1,5 +1,5 @@
 use Rattle.schema_tree.specs.Files.{full_of}
-use Rattle.list_command.proofs.Refusing.{refuses_feature, whole_tree, all_taken, accepts}
+use Rattle.list_command.proofs.Refusing.{refuses_feature, whole_tree, all_taken, accepts_given}
 use Rattle.list_command.proofs.schema.form_of.Goals as goal
 
 pub returns-in-Some-clause-refused : goal.returns-in-Some-clause-refused
@@ -12,7 +12,7 @@ pub simplify-requires-clause-taken : goal.simplify-requires-clause-taken
 simplify-requires-clause-taken c = all_taken (full_of c.args.full.now) c.in_default.ensures
 
 pub returns-in-Ok-clause-accepted : goal.returns-in-Ok-clause-accepted
-returns-in-Ok-clause-accepted c = λ bytes tree. ?
+returns-in-Ok-clause-accepted c = λ bytes tree. accepts_given bytes (full_of c.args.full.now) c.in-Ok.schema c.unbroken.result tree c.in_default.ensures c.in-Ok.ensures.ok c.unbroken.ensures.same c.unbroken.ensures.sound
 
 pub returns-in-Ok-clause-refused : goal.returns-in-Ok-clause-refused
 returns-in-Ok-clause-refused c = λ bytes tree. c.unbroken.ensures.refused bytes (full_of c.args.full.now) (tree, all_taken (full_of c.args.full.now) c.in_default.ensures) c.in-Ok.ensures.ok
