@@ -7,7 +7,7 @@ use Rattle.restrictions.specs.Described.{AreDescribed, IsDescribed}
 use Rattle.restrictions.specs.Shared.{AreStanding, IsStanding}
 use Rattle.restrictions.specs.declared.described.Described.{Described}
 use Rattle.restrictions.specs.declared.shared.Sought.{Sought}
-use Rattle.restrictions.specs.declared.shared.Standing.{Standing}
+use Rattle.restrictions.specs.declared.standing.Standing.{Standing}
 
 module _ (X : Type 0) (P : ℕ → X → Type 0) where
   -- P holds of each element at its place, also of one more
@@ -35,8 +35,8 @@ described_more s n xs x known next =
     let m = length-append xs (x ∷ []) in
     record { same_length = omega (arith, l, m); each = pushed Described (λ i y. IsDescribed (tree_at s i) y) xs x n l known.each next }
 
-pub standing_more : (g : Schema) (k : Sought) (name : Name) (s : Stored) (n : ℕ) (xs : List Standing) (x : Standing) → AreStanding g k name s n xs → IsStanding g k name (tree_at s n) x → AreStanding g k name s (n + 1) (xs ++ x ∷ [])
-standing_more g k name s n xs x known next =
+pub standing_more : (g : Schema) (k : Sought) (names : List Name) (s : Stored) (n : ℕ) (xs : List Standing) (x : Standing) → AreStanding g k names s n xs → IsStanding g k names (tree_at s n) x → AreStanding g k names s (n + 1) (xs ++ x ∷ [])
+standing_more g k names s n xs x known next =
     let l = known.same_length in
     let m = length-append xs (x ∷ []) in
-    record { same_length = omega (arith, l, m); each = pushed Standing (λ i y. IsStanding g k name (tree_at s i) y) xs x n l known.each next }
+    record { same_length = omega (arith, l, m); each = pushed Standing (λ i y. IsStanding g k names (tree_at s i) y) xs x n l known.each next }

@@ -7,3 +7,7 @@ pub mod Sharing
 pub mod Flags
 pub mod Outcomes
 pub mod Simple
+pub mod Words
+pub mod Windows
+pub mod Standings
+pub mod Gathering

@@ -3,3 +3,4 @@ pub mod Truths
 pub mod Shared
 pub mod Described
 pub mod Flags
+pub mod NameSets

@@ -6,12 +6,15 @@
 ghost use Rattle.std.specs.Prelude.{IfOk};
 ghost use Rattle.restrictions.specs.Rules.{IsLeastBroken};
 
+mod class_set;
 mod described;
 mod loose;
+mod name_set;
 mod paths;
 mod rule;
 mod rules;
 mod shared;
+mod standing;
 mod texts;
 
 use crate::described::describe_all;

@@ -1,13 +1,17 @@
 // Names that both sides of a group or interleave have (sections Restrictions on attributes and on interleave).
-ghost use Rattle.std.specs.Prelude.{◌≡◌, ℕ, ◌<◌, Some, false, true, slice_get, IfOk};
+ghost use Rattle.std.specs.Prelude.{◌≡◌, ℕ, ◌<◌, Some, false, true, length, slice_get, IfOk};
 ghost use Rattle.std.specs.Bool.{OnFalse, OnTrue};
-ghost use Rattle.rng_model.specs.Names.{IsName, Name as NameValue};
-ghost use Rattle.rng_model.specs.Patterns.{Definition, Defines};
+ghost use Rattle.std.specs.List.Sorted.{IsStrictlySortedBy};
+ghost use Rattle.rng_model.specs.Names.{IsName, Name as NameValue, name_cmp};
 ghost use Rattle.pattern_intern.specs.Stored.{count, tree_at};
 ghost use Rattle.pattern_intern.specs.Trees.{PartsBelow, node_tree};
-ghost use Rattle.restrictions.specs.Shared.{AreStanding, IsShared, IsStanding, named, shared};
+ghost use Rattle.restrictions.specs.NameSets.{IsSetOf, IsWindow, has};
+ghost use Rattle.restrictions.specs.Shared.{AreMet, AreStanding, IsShared, IsStanding, named, shared};
 ghost use Rattle.restrictions.specs.Truths.{within};
 
+use crate::class_set::class_set;
+use crate::name_set::{MOST, NameSet};
+use crate::standing::Standing;
 use name_classes::Name;
 use pattern_intern::{Node, PatternId, Schema};
 use std::alloc::{AllocError, Global};
@@ -21,151 +25,128 @@ pub(crate) enum Sought {
     Elements,
 }
 
-/// Where a name stands.
-#[derive(Clone, Copy, Debug)]
-pub(crate) struct Standing {
-    /// Inside the pattern.
-    pub(crate) stands: bool,
-    /// In both sides of a group or interleave inside the pattern.
-    pub(crate) meets: bool,
-}
-
-// Whether the node itself can have the name.
-fn is_named(schema: &Schema, sought: Sought, name: &Name, node: Node) -> bool
-    requires { PartsBelow (count schema.now.pool) schema.now.pool node }
-    ensures { result ≡ named schema.now.schema sought name.now (node_tree schema.now.pool node) }
+// The names that the node itself can have.
+fn named_set(schema: &Schema, sought: Sought, names: &[Name], node: Node) -> NameSet
+    requires names { IsWindow names.now }
+    requires node { PartsBelow (count schema.now.pool) schema.now.pool node }
+    ensures { IsSetOf names.now (λ n. named schema.now.schema sought n (node_tree schema.now.pool node)) result }
 {
     match (sought, node) {
         (Sought::Attributes, Node::Attribute(class, _)) => {
-            schema.pool().class(class).contains(name)
+            class_set(names, schema.pool().class(class))
         }
-        (Sought::Elements, Node::Ref(element)) => {
-            element < schema.element_count() && schema.element_class(element).contains(name)
+        (Sought::Elements, Node::Ref(element)) if element < schema.element_count() => {
+            class_set(names, schema.element_class(element))
         }
-        (_, Node::DataType(_, None)) => false,
-        (_, Node::DataType(_, Some(_))) => false,
-        _ => false,
+        (_, Node::DataType(_, None)) => NameSet::none(),
+        (_, Node::DataType(_, Some(_))) => NameSet::none(),
+        _ => NameSet::none(),
     }
 }
 
-// Where the name stands in a part.
+// Where the names stand in a part.
 fn part_at(
     schema: &Schema,
     sought: Sought,
-    name: &Name,
+    names: &[Name],
     id: PatternId,
     known: &[Standing],
     part: PatternId,
 ) -> Standing
-    requires known { AreStanding schema.now.schema sought name.now schema.now.pool id.0 known.now }
+    requires known { AreStanding schema.now.schema sought names.now schema.now.pool id.0 known.now }
     requires part { part.0 < id.0 }
-    ensures { IsStanding schema.now.schema sought name.now (tree_at schema.now.pool part.0) result }
+    ensures { IsStanding schema.now.schema sought names.now (tree_at schema.now.pool part.0) result }
 {
     known[part.0]
 }
 
-// Where the name stands in a pattern, from where it stands in its parts.
+// Where the names stand in a pattern, from where they stand in its parts.
 fn stand(
     schema: &Schema,
     sought: Sought,
-    name: &Name,
+    names: &[Name],
     id: PatternId,
     known: &[Standing],
 ) -> Standing
+    requires names { IsWindow names.now }
     requires within { id.0 < count schema.now.pool }
-    requires known { AreStanding schema.now.schema sought name.now schema.now.pool id.0 known.now }
-    ensures { IsStanding schema.now.schema sought name.now (tree_at schema.now.pool id.0) result }
+    requires known { AreStanding schema.now.schema sought names.now schema.now.pool id.0 known.now }
+    ensures { IsStanding schema.now.schema sought names.now (tree_at schema.now.pool id.0) result }
 {
     let node = schema.pool().node(id);
-    let own = is_named(schema, sought, name, node);
+    let own = named_set(schema, sought, names, node);
     match node {
-        Node::NotAllowed
-        | Node::Empty
-        | Node::AnyText
-        | Node::Ref(_)
-        | Node::Value(_, _)
-        | Node::DataType(_, None) => Standing {
-            stands: own,
-            meets: false,
-        },
-        Node::DataType(_, Some(part)) | Node::Attribute(_, part) | Node::OneOrMore(part) => {
-            let inside = part_at(schema, sought, name, id, known, part);
-            Standing {
-                stands: own || inside.stands,
-                meets: inside.meets,
-            }
+        Node::NotAllowed | Node::Empty | Node::AnyText | Node::Ref(_) | Node::Value(_, _) =>
+            Standing::alone(own),
+        Node::DataType(_, None) => Standing::alone(own),
+        Node::DataType(_, Some(part)) => {
+            part_at(schema, sought, names, id, known, part).around(own)
         }
+        Node::Attribute(_, part) => part_at(schema, sought, names, id, known, part).around(own),
+        Node::OneOrMore(part) => part_at(schema, sought, names, id, known, part).around(own),
         Node::Choice(left, right) | Node::After(left, right) => {
-            let left = part_at(schema, sought, name, id, known, left);
-            let right = part_at(schema, sought, name, id, known, right);
-            Standing {
-                stands: left.stands || right.stands,
-                meets: left.meets || right.meets,
-            }
+            let left = part_at(schema, sought, names, id, known, left);
+            left.beside(part_at(schema, sought, names, id, known, right))
         }
         Node::Group(left, right) => {
-            let left = part_at(schema, sought, name, id, known, left);
-            let right = part_at(schema, sought, name, id, known, right);
-            Standing {
-                stands: left.stands || right.stands,
-                meets: (sought == Sought::Attributes && (left.stands && right.stands))
-                    || (left.meets || right.meets),
+            let left = part_at(schema, sought, names, id, known, left);
+            let right = part_at(schema, sought, names, id, known, right);
+            match sought {
+                Sought::Attributes => left.apart(right),
+                Sought::Elements => left.beside(right),
             }
         }
         Node::Interleave(left, right) => {
-            let left = part_at(schema, sought, name, id, known, left);
-            let right = part_at(schema, sought, name, id, known, right);
-            Standing {
-                stands: left.stands || right.stands,
-                meets: (left.stands && right.stands) || (left.meets || right.meets),
-            }
+            let left = part_at(schema, sought, names, id, known, left);
+            left.apart(part_at(schema, sought, names, id, known, right))
         }
     }
 }
 
-// Where the name stands in each pattern of the schema's pool. Each number is visited once.
+// Where the names stand in each pattern of the schema's pool. Each number is visited once.
 fn stand_all(
     alloc: Global,
     schema: &Schema,
     sought: Sought,
-    name: &Name,
+    names: &[Name],
 ) -> Result<Vec<Standing>, AllocError>
-    ensures { IfOk result (λ known. AreStanding schema.now.schema sought name.now schema.now.pool (count schema.now.pool) known.items) }
+    requires { IsWindow names.now }
+    ensures { IfOk result (λ known. AreStanding schema.now.schema sought names.now schema.now.pool (count schema.now.pool) known.items) }
 {
     let mut known = Vec::new(alloc);
     for id in 0..schema.pool().len() {
-        let next = stand(schema, sought, name, PatternId(id), &known);
+        let next = stand(schema, sought, names, PatternId(id), &known);
         known.push(next)?;
     }
     Ok(known)
 }
 
-// Whether the name meets in a content.
-fn meets_in_content(schema: &Schema, sought: Sought, name: &Name, known: &[Standing]) -> bool
-    requires { AreStanding schema.now.schema sought name.now schema.now.pool (count schema.now.pool) known.now }
-    ensures yes { OnTrue result ((d : ℕ) × (e : Definition) × Defines schema.now.schema d e × (within (shared schema.now.schema sought name.now) e.content ≡ true)) }
-    ensures no { OnFalse result ((d : ℕ) (e : Definition) → Defines schema.now.schema d e → within (shared schema.now.schema sought name.now) e.content ≡ true → ⊥) }
-{
-    for element in 0..schema.element_count() {
-        if known[schema.element_content(element).0].meets {
-            return true;
-        }
-    }
-    false
-}
-
-// Whether the name meets in the start or in a content.
-fn name_meets(
-    alloc: Global,
+// The names that meet in the pattern of a number.
+fn met_at(
     schema: &Schema,
     sought: Sought,
-    name: &Name,
-) -> Result<bool, AllocError>
-    ensures yes { IfOk result (λ b. b ≡ true → IsShared schema.now.schema sought name.now) }
-    ensures no { IfOk result (λ b. b ≡ false → IsShared schema.now.schema sought name.now → ⊥) }
+    names: &[Name],
+    known: &[Standing],
+    id: PatternId,
+) -> NameSet
+    requires known { AreStanding schema.now.schema sought names.now schema.now.pool (count schema.now.pool) known.now }
+    requires within { id.0 < count schema.now.pool }
+    ensures { IsSetOf names.now (λ n. within (shared schema.now.schema sought n) (tree_at schema.now.pool id.0)) result }
 {
-    let known = stand_all(alloc, schema, sought, name)?;
-    Ok(known[schema.start().0].meets || meets_in_content(schema, sought, name, &known))
+    known[id.0].meets
+}
+
+// The names that meet in the start or in a content.
+fn met(schema: &Schema, sought: Sought, names: &[Name], known: &[Standing]) -> NameSet
+    requires { AreStanding schema.now.schema sought names.now schema.now.pool (count schema.now.pool) known.now }
+    ensures { AreMet schema.now.schema sought names.now (length schema.now.schema.elements) result }
+{
+    let mut met = met_at(schema, sought, names, known, schema.start());
+    for element in 0..schema.element_count() {
+        let content = schema.element_content(element);
+        met = met.union(met_at(schema, sought, names, known, content));
+    }
+    met
 }
 
 // A name is one.
@@ -175,21 +156,55 @@ fn is_name(name: &Name)
     let _local = name.local();
 }
 
-/// Whether one of the names stands in both sides of a group or interleave, in the start or in a content.
+// Whether one of the names is in the set.
+fn has_any(names: &[Name], set: NameSet) -> bool
+    requires { IsWindow names.now }
+    ensures yes { OnTrue result ((k : ℕ) × (n : NameValue) × (slice_get names.now k ≡ Some n) × IsName n × (has set k ≡ true)) }
+    ensures no { OnFalse result ((k : ℕ) (n : NameValue) → slice_get names.now k ≡ Some n → has set k ≡ true → ⊥) }
+{
+    for position in 0..names.len() {
+        is_name(&names[position]);
+        if set.has(position) {
+            return true;
+        }
+    }
+    false
+}
+
+// Whether one of the names meets in the start or in a content.
+fn window_meets(
+    alloc: Global,
+    schema: &Schema,
+    sought: Sought,
+    names: &[Name],
+) -> Result<bool, AllocError>
+    requires { IsWindow names.now }
+    ensures yes { IfOk result (λ b. b ≡ true → (n : NameValue) × IsName n × IsShared schema.now.schema sought n) }
+    ensures no { IfOk result (λ b. b ≡ false → (k : ℕ) (n : NameValue) → slice_get names.now k ≡ Some n → IsShared schema.now.schema sought n → ⊥) }
+{
+    let known = stand_all(alloc, schema, sought, names)?;
+    Ok(has_any(names, met(schema, sought, names, &known)))
+}
+
+/// Whether one of the ascending names stands in both sides of a group or interleave, in the start or in a content. The pool is passed once
+/// for 64 names.
 pub(crate) fn some_name_meets(
     alloc: Global,
     schema: &Schema,
     sought: Sought,
     names: &[Name],
 ) -> Result<bool, AllocError>
+    requires { IsStrictlySortedBy name_cmp names.now }
     ensures yes { IfOk result (λ b. b ≡ true → (n : NameValue) × IsName n × IsShared schema.now.schema sought n) }
-    ensures no { IfOk result (λ b. b ≡ false → (i : ℕ) (n : NameValue) → slice_get names.now i ≡ Some n → IsShared schema.now.schema sought n → ⊥) }
+    ensures no { IfOk result (λ b. b ≡ false → (k : ℕ) (n : NameValue) → slice_get names.now k ≡ Some n → IsShared schema.now.schema sought n → ⊥) }
 {
-    for name in names {
-        is_name(name);
-        if name_meets(alloc, schema, sought, name)? {
+    let mut rest = names;
+    while !rest.is_empty() {
+        let (window, behind) = rest.split_at(rest.len().min(MOST));
+        if window_meets(alloc, schema, sought, window)? {
             return Ok(true);
         }
+        rest = behind;
     }
     Ok(false)
 }

@@ -1,15 +1,19 @@
-use Rattle.std.proofs.Common.{length, arith}
-use Rattle.std.proofs.lemmas.Option.{slice_get_read, slice_get_within}
+use Rattle.std.proofs.Common.{sym, ◌∙◌, subst}
+use Rattle.std.specs.List.Sorted.{IsStrictlySortedBy}
+use Rattle.rng_model.specs.Names.{name_cmp}
 use Rattle.restrictions.specs.Shared.{IsShared}
-use Rattle.restrictions.proofs.Outcomes.{none_more}
+use Rattle.restrictions.proofs.Gathering.{NoneIs, window_of, sorted_split, none_of_both, in_two}
 use Rattle.restrictions.proofs.shared.some_name_meets.Goals as goal
 
-pub loop-name-preserved : goal.loop-name-preserved
-loop-name-preserved c =
-    none_more (IsShared c.args.schema.now.schema c.args.sought) c.args.names.now c.loop-name.name-index c.name-item.result
-    (slice_get_read c.args.names.now (length c.args.names.now) c.loop-name.name-index c.name-item.result (λ j. length c.args.names.now) (let t = c.loop-name-test.true in omega (arith, t)) c.name-item.is)
-    (c.in_ok-name_meets.ensures.no c.if-branch.false) c.loop-name.invariant
+pub window_meets-requires : goal.window_meets-requires
+window_meets-requires c =
+    window_of c.loop-rest.rest.now c.split_at.result.0.now _ (sym c.is_empty.ensures ∙ c.loop-rest-test.true) c.min.ensures c.split_at.ensures.front c.split_at.ensures.front_len c.loop-rest.invariant.0
 
-pub returns-clause-no : goal.returns-clause-no
-returns-clause-no c =
-    λ t i n e s. c.loop-name.invariant i n (let l = slice_get_within c.args.names.now i n e in let f = c.loop-name-test.false in omega (arith, l, f)) e s
+pub loop-rest-preserved : goal.loop-rest-preserved
+loop-rest-preserved c =
+    let s = in_two c.loop-rest.rest.now c.split_at.result.0.now c.split_at.result.1.now _ c.split_at.ensures.front c.split_at.ensures.back in (
+      (sorted_split name_cmp c.split_at.result.0.now c.split_at.result.1.now (subst (IsStrictlySortedBy name_cmp) (sym s) c.loop-rest.invariant.0)).1,
+      λ none. c.loop-rest.invariant.1
+          (subst (NoneIs (IsShared c.args.schema.now.schema c.args.sought)) s
+          (none_of_both (IsShared c.args.schema.now.schema c.args.sought) c.split_at.result.0.now c.split_at.result.1.now (c.in_ok-window_meets.ensures.no c.if-branch.false) none)),
+    )
