@@ -1,0 +1,4 @@
+pub mod Fronts
+pub mod Beginning
+pub mod Once
+pub mod Ranks

@@ -1,0 +1,4 @@
+pub mod Pending
+pub mod StateCounts
+pub mod Fronts
+pub mod Ranks
