@@ -1,0 +1,10 @@
+pub mod Extending
+pub mod Keeping
+pub mod Joining
+pub mod Nodes
+pub mod Choicewise
+pub mod Opened
+pub mod Turns
+pub mod Untaken
+pub mod Accepting
+pub mod WholeTexts
