@@ -1,6 +1,7 @@
 //! Derivatives of patterns by the pieces of a document (Clark's algorithm for RELAX NG validation), over numbered patterns.
 //!
-//! A function of patterns keeps its result for each number within a step, so a pattern that stands in several places is visited once.
+//! Openings, texts, attributes and ends of tags keep their results for each number within a step, so they visit a pattern once that stands
+//! in several places. What follows an element is grown, and an element ended, without such results.
 #![tactic(auto)]
 
 mod attribute;
