@@ -1,0 +1,4 @@
+pub mod Steps
+pub mod FromSizeToSize
+pub mod StateLines
+pub mod Sums

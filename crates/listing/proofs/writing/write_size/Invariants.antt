@@ -1,0 +1,23 @@
+use Rattle.std.proofs.Common.{◌≡◌, ℕ, ◌≤◌, List, Option, IfSome, is_some}
+use Rattle.rng_model.specs.Hedges.{Skeleton}
+use Rattle.feasibility.specs.Tables.{lists}
+use Rattle.lister.specs.Walks.{IsWalkOf, IsSet}
+use Rattle.listing.specs.Progress.{walk_left}
+use Rattle.listing.specs.Endings.{IsReadyFor}
+use Rattle.listing.proofs.writing.write_size.Given as goal
+
+abbrev pub invariant-loop : goal.invariant-loop
+invariant-loop g l = record {
+  set : IsSet l.lister.stage;
+  own : IsWalkOf l.table l.lister.size l.lister.stage;
+  room : l.lister.room ≡ l.fn.lister.room;
+  size : l.lister.size ≡ l.fn.lister.size;
+  some : IfSome l.left (λ k. 1 ≤ k);
+  ready : (n : ℕ) (after : Option Skeleton) (page : Option ℕ) (taken : Option (List ℕ)) →
+      IsReadyFor l.table n after l.fn.lister page l.fn.left taken (g.O.Sink.taken l.fn.out) → IsReadyFor l.table n after l.lister page l.left taken (g.O.Sink.taken l.out);
+  told : is_some (g.O.Sink.taken l.out) ≡ is_some (g.O.Sink.taken l.fn.out);
+  faults : g.O.Sink.faults l.out ≡ g.O.Sink.faults l.fn.out;
+}
+
+abbrev pub decreases-loop : goal.decreases-loop
+decreases-loop g l = walk_left (lists l.table) l.lister.size l.lister.stage

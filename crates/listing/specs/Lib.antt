@@ -1,0 +1,5 @@
+pub mod Progress
+pub mod Endings
+pub mod Counting
+pub mod Doing
+pub mod Summing
