@@ -11,8 +11,6 @@ const SCHEMA: &str = "element a { empty }";
 
 const TEXT: &str = "(a\n>\n)\n\n";
 
-const NOT_YET: &str = "schema 9 NotYet\n";
-
 /// A run that counts its steps from 0.
 fn counted<L: Ledger>(
     alloc: Global,
@@ -143,8 +141,15 @@ fn rows(rt: HostRuntime) -> Result<(), AllocError> {
             TEXT,
             "",
         ),
-        ("list 1 f", "element a { text }", 3, "", NOT_YET),
-        ("list 1 f", "element a | b { empty }", 3, "", NOT_YET),
+        ("list 1 f", "element a { text }", 0, TEXT, ""),
+        (
+            "list 1 f",
+            "element a | b { empty }",
+            0,
+            "(a\n>\n)\n\n(b\n>\n)\n\n",
+            "",
+        ),
+        ("list 1 f max=1", "element a | b { empty }", 9, TEXT, ""),
         ("list 1 f", "start = a a = element a { empty }", 0, TEXT, ""),
         (
             "list 1 f",
@@ -160,7 +165,7 @@ fn rows(rt: HostRuntime) -> Result<(), AllocError> {
         ("list 1", SCHEMA, 2, "", "words\n"),
         ("universe g", SCHEMA, 6, "", "read\n"),
         ("universe 1 f", SCHEMA, 2, "", "words\n"),
-        ("states 1 f", SCHEMA, 2, "", "words\n"),
+        ("states 0 f", SCHEMA, 2, "", "words\n"),
         ("", SCHEMA, 2, "", "words\n"),
     ];
     for (words, schema, status, out, err) in rows {
@@ -338,10 +343,10 @@ fn names(
     gives(alloc, "list 1 f", schema.as_bytes(), status, out, err)
 }
 
-/// Whether a schema with a literal of so many letters is refused so.
-fn literals(alloc: Global, letters: usize, err: &str) -> Result<bool, AllocError> {
+/// Whether a schema with a literal of so many letters, which has no document of one node, ends so.
+fn literals(alloc: Global, letters: usize, status: u8, err: &str) -> Result<bool, AllocError> {
     let schema = long(alloc, "element a { \"", letters, "\" }")?;
-    gives(alloc, "list 1 f", schema.as_bytes(), 3, "", err)
+    gives(alloc, "list 1 f", schema.as_bytes(), status, "", err)
 }
 
 #[test]
@@ -352,9 +357,9 @@ fn name_and_literal_limits(rt: HostRuntime) -> Result<(), AllocError> {
     assert!(rt; longest);
     let longer = names(alloc, 1025, 3, "", "schema 7 NameTooLong at 8\n")?;
     assert!(rt; longer);
-    let longest = literals(alloc, 4096, NOT_YET)?;
+    let longest = literals(alloc, 4096, 0, "")?;
     assert!(rt; longest);
-    let longer = literals(alloc, 4097, "schema 6 LiteralTooLong at 12\n")?;
+    let longer = literals(alloc, 4097, 3, "schema 6 LiteralTooLong at 12\n")?;
     assert!(rt; longer);
     Ok(())
 }

@@ -1,3 +1,5 @@
+use Rattle.std.proofs.Common.{inl, inr}
+use Rattle.command_words.specs.Requests.{request_of}
 use Rattle.list_command.specs.Owed.{Owes}
 use Rattle.list_command.specs.Runs.{EndsAsOwed}
 use Rattle.list_command.proofs.Exits.{appends_nothing}

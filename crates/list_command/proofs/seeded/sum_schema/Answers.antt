@@ -1,0 +1,10 @@
+use Rattle.std.proofs.Common.{◌≡◌, refl, []}
+use Rattle.std.specs.Prelude.{None}
+use Rattle.feasibility.specs.Tables.{lists}
+use Rattle.listing_laws.specs.Pending.{Ending}
+use Rattle.command_words.specs.Requests.{request_of}
+use Rattle.list_command.proofs.Exits.{ends_unwritten}
+use Rattle.list_command.proofs.seeded.sum_schema.Goals as goal
+
+pub returns-in_default-clause-owed : goal.returns-in_default-clause-owed
+returns-in_default-clause-owed g c = λ z asks accepts words files form reads. ends_unwritten words files _ _ _ _ (request_of c.args.asked.now) form
