@@ -1,0 +1,11 @@
+pub mod Apart
+pub mod Costing
+pub mod Filled
+pub mod Finding
+pub mod Holding
+pub mod Knowing
+pub mod Leading
+pub mod Moving
+pub mod Passing
+pub mod Rowing
+pub mod Sharing
