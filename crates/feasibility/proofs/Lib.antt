@@ -1,0 +1,13 @@
+pub mod Adding
+pub mod Apart
+pub mod Beginning
+pub mod Cutting
+pub mod Finding
+pub mod Firsts
+pub mod Holding
+pub mod Knowing
+pub mod Leading
+pub mod Moving
+pub mod Rowing
+pub mod Sizes
+pub mod Tabling

@@ -1,0 +1,10 @@
+pub mod Alikes
+pub mod Arcs
+pub mod Exploring
+pub mod Families
+pub mod Faults
+pub mod Following
+pub mod Grown
+pub mod Growing
+pub mod Limits
+pub mod Tables
