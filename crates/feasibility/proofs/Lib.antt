@@ -1,0 +1,11 @@
+pub mod Apart
+pub mod Finding
+pub mod Holding
+pub mod Knowing
+pub mod Leading
+pub mod Marking
+pub mod Moving
+pub mod Ordered
+pub mod Rowing
+pub mod Searching
+pub mod Departing

@@ -1,0 +1,9 @@
+pub mod Arcs
+pub mod Exploring
+pub mod Families
+pub mod Following
+pub mod Grown
+pub mod Limits
+pub mod Marking
+pub mod Tables
+pub mod Taking

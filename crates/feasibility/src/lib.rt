@@ -1,0 +1,21 @@
+//! The table of a schema's states: those that codes with so many nodes reach, what follows each, and with how many nodes more it can
+//! finish.
+#![tactic(auto)]
+
+mod arc;
+mod block;
+mod explorer;
+mod family;
+mod fault;
+mod following;
+mod mark_list;
+mod marks;
+mod next_codes;
+mod row;
+mod state_id;
+mod successors;
+mod table;
+
+pub use fault::TableFault;
+pub use state_id::StateId;
+pub use table::Table;
