@@ -7,10 +7,11 @@ ghost use Rattle.pattern_intern.specs.Stored.{count, tree_at};
 
 use crate::broken;
 use name_classes::{Name, NameClass};
+use name_universe::{NameList, Universe, alike_attributes, alike_elements};
 use pattern_intern::{Definitions, Node, PatternId, Pool, Schema};
 use std::alloc::Global;
 use std::test::Fail;
-use text_atoms::{Kind, Text};
+use text_atoms::{Groups, Kind, Text};
 
 /// A constructor's call, its parts by their places among what is made: notAllowed, empty, text, a reference to the first element, and
 /// then a pattern for each call.
@@ -32,11 +33,19 @@ fn text(alloc: Global, characters: &str) -> Result<Text, Fail> {
     Ok(Text::from_string(String::from_str(alloc, characters)?))
 }
 
-/// The class of any name, or of one name without namespace.
+/// The class of one name without namespace.
+fn one(alloc: Global, name: &str) -> Result<NameClass, Fail> {
+    let name = Name::new(text(alloc, "")?, text(alloc, name)?)?;
+    Ok(NameClass::one(alloc, name)?)
+}
+
+/// The class of any name, of any but one, or of one name without namespace.
 fn class(alloc: Global, name: &str) -> Result<NameClass, Fail> {
     Ok(match name {
         "*" => NameClass::any(alloc)?,
-        _ => NameClass::one(alloc, Name::new(text(alloc, "")?, text(alloc, name)?)?)?,
+        "* - a" => NameClass::any_except(one(alloc, "a")?)?,
+        "* - b" => NameClass::any_except(one(alloc, "b")?)?,
+        _ => one(alloc, name)?,
     })
 }
 
@@ -137,35 +146,81 @@ fn rule(alloc: Global, schema: &Schema) -> Result<u8, Fail> {
     })
 }
 
-/// The number of the least rule that the start and the definitions break, 0 for none, 99 where they are no schema.
+/// The schema of the start and the definitions, none where they are no schema.
 #[tactic(auto, using(crate::proofs::Simple::schema_form))]
-fn rule_of(
-    alloc: Global,
-    pool: Pool,
-    start: PatternId,
-    definitions: Definitions,
-) -> Result<u8, Fail>
+fn schema_of(pool: Pool, start: PatternId, definitions: Definitions) -> Option<Schema>
     requires start { start.0 < count pool }
     requires contents { AreWithin pool definitions }
 {
     if !are_simple(&pool, definitions.len()) {
-        return Ok(99);
+        return None;
     }
-    rule(alloc, &Schema::new(pool, start, definitions))
+    Some(Schema::new(pool, start, definitions))
 }
 
 /// The same of what the calls make, of the start and the elements at these places.
+fn schema_of_calls(
+    alloc: Global,
+    calls: &[Call],
+    start: usize,
+    elements: &[(&'static str, usize)],
+) -> Result<Option<Schema>, Fail> {
+    let mut pool = Pool::new(alloc)?;
+    let made = make_all(alloc, &mut pool, calls)?;
+    let definitions = define(alloc, &pool, made.as_slice(), elements)?;
+    let start = part(&pool, made.as_slice(), start);
+    Ok(schema_of(pool, start, definitions))
+}
+
+/// The number of the least rule that what the calls make breaks, 0 for none, 99 where it is no schema.
 fn rule_of_calls(
     alloc: Global,
     calls: &[Call],
     start: usize,
     elements: &[(&'static str, usize)],
 ) -> Result<u8, Fail> {
-    let mut pool = Pool::new(alloc)?;
-    let made = make_all(alloc, &mut pool, calls)?;
-    let definitions = define(alloc, &pool, made.as_slice(), elements)?;
-    let start = part(&pool, made.as_slice(), start);
-    rule_of(alloc, pool, start, definitions)
+    match schema_of_calls(alloc, calls, start, elements)? {
+        Some(schema) => rule(alloc, &schema),
+        None => Ok(99),
+    }
+}
+
+/// Whether these are the names of a list, each in this group.
+fn are_grouped(names: &NameList, groups: &Groups, rows: &[(&str, &str, usize)]) -> bool {
+    if names.len() != rows.len() || groups.len() != rows.len() {
+        return false;
+    }
+    for position in 0..rows.len() {
+        let (ns, local, group) = rows[position];
+        let name = names.get(position);
+        let is_name = name.ns().as_str() == ns && name.local().as_str() == local;
+        if !is_name || groups.group(position) != group {
+            return false;
+        }
+    }
+    true
+}
+
+/// Whether the schema's names for elements are these, each in this group.
+fn are_elements(
+    alloc: Global,
+    schema: &Schema,
+    rows: &[(&str, &str, usize)],
+) -> Result<bool, Fail> {
+    let universe = Universe::of(alloc, schema, 1)?;
+    let groups = alike_elements(alloc, schema, &universe)?;
+    Ok(are_grouped(universe.elements(), &groups, rows))
+}
+
+/// Whether the schema's names for attributes are these, each in this group.
+fn are_attributes(
+    alloc: Global,
+    schema: &Schema,
+    rows: &[(&str, &str, usize)],
+) -> Result<bool, Fail> {
+    let universe = Universe::of(alloc, schema, 1)?;
+    let groups = alike_attributes(alloc, schema, &universe)?;
+    Ok(are_grouped(universe.attributes(), &groups, rows))
 }
 
 /// An element, and forty times a group of what was made before with itself.
@@ -319,6 +374,33 @@ fn each_rule(rt: HostRuntime) -> Result<(), Fail> {
     for (number, calls, start, elements) in rows {
         let found = rule_of_calls(rt.alloc(), calls, start, elements)?;
         assert_eq!(rt; found, number);
+    }
+    Ok(())
+}
+
+#[test]
+fn alike_names(rt: HostRuntime) -> Result<(), Fail> {
+    let alloc = rt.alloc();
+    // `x` alone, and the fresh names together; the name in an except alone.
+    let elements = [
+        ("x", [("", "x", 0), ("", "x1", 1), ("urn:x", "x", 1)]),
+        ("* - a", [("", "a", 0), ("", "x", 1), ("urn:x", "x", 1)]),
+    ];
+    for (class, rows) in elements {
+        let schema = schema_of_calls(alloc, &[], 3, &[(class, 1)])?;
+        assert!(rt; schema.is_some());
+        if let Some(schema) = schema {
+            let holds = are_elements(alloc, &schema, &rows)?;
+            assert!(rt; holds);
+        }
+    }
+    let rows = [("", "b", 0), ("", "x", 1), ("urn:x", "x", 1)];
+    let calls = [Attribute("* - b", 2), OneOrMore(4), Choice(1, 5)];
+    let schema = schema_of_calls(alloc, &calls, 3, &[("a", 6)])?;
+    assert!(rt; schema.is_some());
+    if let Some(schema) = schema {
+        let holds = are_attributes(alloc, &schema, &rows)?;
+        assert!(rt; holds);
     }
     Ok(())
 }
