@@ -5,6 +5,7 @@ ghost use Rattle.std.specs.Prelude.{◌<◌, IfOk};
 ghost use Rattle.pattern_intern.specs.Stored.{count};
 
 mod documents;
+mod steps;
 
 use documents::time_writer;
 use event_lines::read_skeleton;
@@ -15,6 +16,7 @@ use rnc_parser::parse;
 use std::alloc::{AllocError, Global};
 use std::time::Instant;
 use std::{env, io};
+use steps::time_derivatives;
 use text_atoms::{Atoms, Kind, Literals, Text, TextList, alike_atoms};
 
 /// The bytes of a schema that is lexed: the most that a schema may have.
@@ -265,7 +267,7 @@ fn main(rt: HostRuntime) -> io::Result<()> {
     let alloc = rt.alloc();
     let Some(name) = env::args(&rt)?.nth(1) else {
         println!(rt;
-            "lex-short-tokens lex-comment lex-elements lex-quotes lex-escaped-names lex-escapes parse-choice parse-group parse-definitions parse-declarations parse-annotations read-elements read-short-lines read-texts read-escapes read-namespaces write-codes copy-lines atoms alike pool-mixed pool-choice pool-choice-of-all pool-group pool-names"
+            "lex-short-tokens lex-comment lex-elements lex-quotes lex-escaped-names lex-escapes parse-choice parse-group parse-definitions parse-declarations parse-annotations read-elements read-short-lines read-texts read-escapes read-namespaces write-codes copy-lines atoms alike pool-mixed pool-choice pool-choice-of-all pool-group pool-names steps-note steps-literals-500 steps-literals-20000 steps-interleave-16 steps-attributes-1000"
         )?;
         return Ok(());
     };
@@ -284,6 +286,9 @@ fn main(rt: HostRuntime) -> io::Result<()> {
         return Ok(());
     }
     if time_writer(&rt, name.as_str())? || time_pool(&rt, name.as_str())? {
+        return Ok(());
+    }
+    if time_derivatives(&rt, name.as_str())? {
         return Ok(());
     }
     let literals = literals(alloc)?;
