@@ -1,0 +1,6 @@
+-- So many lists are there, and each is empty.
+use Rattle.std.proofs.Common.{◌≡◌, [], map, replicate}
+use Rattle.feasibility.proofs.known.empty_lists.Given as goal
+
+abbrev pub invariant-loop : goal.invariant-loop
+invariant-loop l = map (λ list. list.items) l.lists.items ≡ replicate l.counter []

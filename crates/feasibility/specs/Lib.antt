@@ -1,0 +1,14 @@
+pub mod Alikes
+pub mod Arcs
+pub mod Costs
+pub mod Exploring
+pub mod Families
+pub mod Faults
+pub mod Following
+pub mod Growing
+pub mod Grown
+pub mod Limits
+pub mod Marking
+pub mod Runs
+pub mod Tables
+pub mod Taking

@@ -1,0 +1,258 @@
+// Which states can finish with how many nodes.
+ghost use Rattle.std.specs.Prelude.{◌≡◌, ◌+◌, ◌-◌, ◌<◌, ◌≤◌, ◌↔◌, [], Bool, List, Some, IsTrue, length, slice_get, take, map, IfOk, OnOk};
+ghost use Rattle.rng_model.specs.Matching.{nullable};
+ghost use Rattle.feasibility.specs.declared.explorer.Explorer.{Explorer as ExplorerValue};
+ghost use Rattle.feasibility.specs.Exploring.{IsExploring, at, found};
+ghost use Rattle.feasibility.specs.Grown.{IsGrown};
+ghost use Rattle.feasibility.specs.Marking.{AreMarks, AreMarked, AreReady, AreRight, Finishes, FinishesFirst, HasLength, HasMarks, KeepsMarks, Stay, IsBlock, IsClosed, IsReady, IsReadyNode, IsWithin, LeadsOn, end_of};
+
+use crate::block::Block;
+use crate::explorer::Explorer;
+use crate::mark_list::MarkList;
+use crate::row::Row;
+use crate::state_id::StateId;
+use std::alloc::{AllocError, Global};
+use std::marker::Model;
+
+/// For each number of nodes, from 0 on, which states can finish with exactly so many.
+#[derive(Drop)]
+pub(crate) struct Marks {
+    lists: Vec<MarkList>,
+}
+
+impl Model for Marks {
+    ghost use Rattle.std.specs.Prelude.{Bool, List};
+
+    ghost Value = { List (List Bool) };
+
+    ghost view = { λ m. m.lists.items };
+}
+
+// Whether a state accepts.
+fn accepts(explorer: &Explorer, id: usize) -> bool
+    requires exploring { IsExploring explorer.now }
+    requires held { id < length (found explorer.now) }
+    ensures { result ≡ nullable (at explorer.now id).pattern }
+{
+    explorer.derivatives.accepts(explorer.states.as_slice()[id])
+}
+
+// Whether an arc leads to a state with a mark.
+fn leads_on(row: &Row, list: &MarkList) -> bool
+    requires { IsWithin row.now (length list.now) }
+    ensures { IsTrue result ↔ LeadsOn row.now list.now }
+{
+    for place in 0..row.len() {
+        if list.mark(row.arc(place).next.0) {
+            return true;
+        }
+    }
+    false
+}
+
+// Whether a state can finish: by the mark in its block, or by that of one to which codes without a node lead from it.
+fn finishes(
+    explorer: &Explorer,
+    frees: &[Option<StateId>],
+    list: &MarkList,
+    block: &Block,
+    from: usize,
+) -> bool
+    requires exploring { IsExploring explorer.now }
+    requires closed { IsClosed explorer.now frees.now (end_of block.now) }
+    requires marks { AreMarks explorer.now block.now.rest list.now }
+    requires block { IsBlock explorer.now block.now }
+    requires start { block.now.start ≤ length list.now }
+    requires from { from < end_of block.now }
+    ensures { IsTrue result ↔ Finishes explorer.now block.now.rest from }
+{
+    let mut id = from;
+    'walk: while id >= list.len() {
+        if block.mark(id) {
+            return true;
+        }
+        match frees[id] {
+            Some(next) => id = next.0,
+            None => return false,
+        }
+    }
+    list.mark(id)
+}
+
+// Adds the marks of a block.
+fn settle(
+    list: &mut MarkList,
+    explorer: &Explorer,
+    frees: &[Option<StateId>],
+    block: &Block,
+) -> Result<(), AllocError>
+    requires exploring { IsExploring explorer.now }
+    requires closed { IsClosed explorer.now frees.now (end_of block.now) }
+    requires block { IsBlock explorer.now block.now }
+    requires marks { AreMarks explorer.now block.now.rest list.old }
+    requires start { block.now.start ≡ length list.old }
+    ensures marks { AreMarks explorer.now block.now.rest list.new }
+    ensures longer { length list.old ≤ length list.new }
+    ensures all { OnOk result (end_of block.now ≤ length list.new) }
+{
+    for id in block.start..block.start + block.marks.len() {
+        let mark = finishes(explorer, frees, list, block, id);
+        list.push(mark)?;
+    }
+    Ok(())
+}
+
+impl Marks {
+    /// No marks.
+    pub(crate) fn new(alloc: Global) -> Marks
+        ensures { result ≡ [] }
+    {
+        Marks {
+            lists: Vec::new(alloc),
+        }
+    }
+
+    /// Whether a state can finish with exactly `rest` nodes.
+    pub(crate) fn mark(&self, rest: usize, id: StateId) -> bool
+        requires { HasMarks self.now rest (id.0 + 1) }
+        ensures { (list : List Bool) → slice_get self.now rest ≡ Some list → slice_get list id.0 ≡ Some result }
+    {
+        self.lists[rest].mark(id.0)
+    }
+
+    // Whether a code with a node leads from a state to one that can finish with exactly `left` nodes.
+    fn node_mark(&self, explorer: &Explorer, rows: &[Row], left: usize, id: usize) -> bool
+        requires exploring { IsExploring explorer.now }
+        requires row { id < length rows.now }
+        requires list { left < length self.now }
+        requires ready { IsReadyNode explorer.now rows.now left id self.now }
+        ensures { IsTrue result ↔ FinishesFirst explorer.now (left + 1) id }
+    {
+        leads_on(&rows[id], &self.lists[left])
+    }
+
+    // Whether a state can finish so that the first code has a node, or none follows.
+    fn first_mark(&self, explorer: &Explorer, rows: &[Row], rest: usize, id: usize) -> bool
+        requires exploring { IsExploring explorer.now }
+        requires ready { IsReady explorer.now rows.now rest id self.now }
+        ensures { IsTrue result ↔ FinishesFirst explorer.now rest id }
+    {
+        if rest == 0 {
+            accepts(explorer, id)
+        } else {
+            self.node_mark(explorer, rows, rest - 1, id)
+        }
+    }
+
+    // The block of the states from a number to another.
+    fn block(
+        &self,
+        explorer: &Explorer,
+        rows: &[Row],
+        rest: usize,
+        start: usize,
+        count: usize,
+    ) -> Result<Block, AllocError>
+        requires exploring { IsExploring explorer.now }
+        requires ready { AreReady explorer.now rows.now rest count self.now }
+        requires some { start < count }
+        requires few { start ≤ length (found explorer.now) }
+        ensures rest { IfOk result (λ b. b.rest ≡ rest) }
+        ensures start { IfOk result (λ b. b.start ≡ start) }
+        ensures end { IfOk result (λ b. end_of b ≡ count) }
+        ensures block { IfOk result (IsBlock explorer.now) }
+    {
+        let mut block = Block::new(explorer.derivatives.allocator(), rest, start);
+        for id in start..count {
+            block.push(self.first_mark(explorer, rows, rest, id))?;
+        }
+        Ok(block)
+    }
+
+    // How many states the list of `rest` marks.
+    fn len(&self, rest: usize) -> usize
+        requires { rest < length self.now }
+        ensures { HasLength self.now rest result }
+    {
+        self.lists[rest].len()
+    }
+
+    // Begins the list of `rest`, unless it is there.
+    fn begin(&mut self, alloc: Global, rest: usize) -> Result<(), AllocError>
+        requires { rest ≤ length self.old }
+        ensures stay { Stay rest self.old self.new }
+        ensures kept { KeepsMarks self.old self.new }
+        ensures right { (e : ExplorerValue) → AreRight e self.old → AreRight e self.new }
+        ensures listed { OnOk result (rest < length self.new) }
+    {
+        if rest == self.lists.len() {
+            self.lists.push(MarkList::new(alloc))?;
+        }
+        Ok(())
+    }
+
+    // Adds the marks of the states below the number.
+    fn grow_list(
+        &mut self,
+        explorer: &Explorer,
+        frees: &[Option<StateId>],
+        rows: &[Row],
+        rest: usize,
+        count: usize,
+    ) -> Result<(), AllocError>
+        requires exploring { IsExploring explorer.now }
+        requires closed { IsClosed explorer.now frees.now count }
+        requires ready { AreReady explorer.now rows.now rest count self.old }
+        requires right { AreRight explorer.now self.old }
+        requires listed { rest ≤ length self.old }
+        ensures right { AreRight explorer.now self.new }
+        ensures stay { Stay rest self.old self.new }
+        ensures kept { KeepsMarks self.old self.new }
+        ensures all { OnOk result (HasMarks self.new rest count) }
+    {
+        self.begin(explorer.derivatives.allocator(), rest)?;
+        let start = self.len(rest);
+        if start >= count {
+            return Ok(());
+        }
+        let block = self.block(explorer, rows, rest, start, count)?;
+        settle(&mut self.lists[rest], explorer, frees, &block)
+    }
+
+    /// Adds the marks of the states that are found: of those that so many nodes reach, for each number of nodes that are left to the size. After an
+    /// error each mark is right, too.
+    pub(crate) fn grow(
+        &mut self,
+        explorer: &Explorer,
+        frees: &[Option<StateId>],
+        rows: &[Row],
+        levels: &[usize],
+    ) -> Result<(), AllocError>
+        requires grown { IsGrown explorer.now frees.now rows.now levels.now }
+        requires right { AreRight explorer.now self.old }
+        ensures right { AreRight explorer.now self.new }
+        ensures kept { KeepsMarks self.old self.new }
+        ensures all { OnOk result (AreMarked explorer.now levels.now (explorer.now.level + 1) self.new) }
+    {
+        for rest in 0..levels.len() {
+            self.grow_list(explorer, frees, rows, rest, levels[explorer.level - rest])?;
+        }
+        Ok(())
+    }
+
+    // How many lists there are.
+    fn count(&self) -> usize
+        ensures { result ≡ length self.now }
+    {
+        self.lists.len()
+    }
+
+    /// Keeps the marks of the states below the number.
+    pub(crate) fn cut(&mut self, count: usize)
+        ensures { self.new ≡ map (take count) self.old }
+    {
+        for rest in 0..self.count() {
+            self.lists[rest].truncate(count);
+        }
+    }
+}

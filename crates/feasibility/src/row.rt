@@ -1,0 +1,62 @@
+// What leads from a state to others.
+ghost use Rattle.std.specs.Prelude.{◌≡◌, ◌<◌, [], Some, length, slice_get, OnOk, OnErr};
+ghost use Rattle.feasibility.specs.Runs.{IsAdded};
+
+use crate::arc::Arc;
+use std::alloc::{AllocError, Global};
+use std::marker::Model;
+
+/// What leads from a state to others by codes with a node, ascending.
+#[derive(Drop)]
+pub(crate) struct Row {
+    arcs: Vec<Arc>,
+}
+
+impl Model for Row {
+    ghost use Rattle.std.specs.Prelude.{List};
+    ghost use Rattle.feasibility.specs.declared.arc.Arc.{Arc as ArcValue};
+
+    ghost Value = { List ArcValue };
+
+    ghost view = { λ r. r.arcs.items };
+}
+
+impl Row {
+    /// Nothing. It takes its memory from `alloc` as it grows.
+    pub(crate) fn new(alloc: Global) -> Row
+        ensures { result ≡ [] }
+    {
+        Row {
+            arcs: Vec::new(alloc),
+        }
+    }
+
+    /// How many there are.
+    pub(crate) fn len(&self) -> usize
+        ensures { result ≡ length self.now }
+    {
+        self.arcs.len()
+    }
+
+    /// The one at a place, counted from 0.
+    pub(crate) fn arc(&self, place: usize) -> Arc
+        requires { place < length self.now }
+        ensures { slice_get self.now place ≡ Some result }
+    {
+        self.arcs[place]
+    }
+
+    /// Adds one behind the others: the last one is extended where it goes on to it.
+    pub(crate) fn push(&mut self, arc: Arc) -> Result<(), AllocError>
+        ensures ok { OnOk result (IsAdded self.old arc self.new) }
+        ensures err { OnErr result (self.new ≡ self.old) }
+    {
+        let count = self.arcs.len();
+        if count > 0 && self.arcs[count - 1].goes_on(arc) {
+            self.arcs[count - 1].last = arc.last;
+        } else {
+            self.arcs.push(arc)?;
+        }
+        Ok(())
+    }
+}
