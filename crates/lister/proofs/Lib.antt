@@ -1,0 +1,10 @@
+pub mod Tails
+pub mod Steps
+pub mod Retreating
+pub mod Follows
+pub mod Growing
+pub mod Popping
+pub mod Completing
+pub mod Starting
+pub mod Arriving
+pub mod Documents

@@ -1,0 +1,86 @@
+// The next document of a size.
+ghost use Rattle.std.specs.Prelude.{◌≡◌, ◌+◌, ◌*◌, ◌≤◌};
+ghost use Rattle.rng_model.specs.Codes.{nodes as node_count};
+ghost use Rattle.rng_model.specs.Universe.{event_count};
+ghost use Rattle.feasibility.specs.Tables.{lists};
+ghost use Rattle.lister.specs.Walks.{IsWalkOf, IsStep, IsSet};
+ghost use Rattle.lister.specs.Paths.{IsKept};
+ghost use Rattle.lister.specs.Descents.{IsDocument};
+ghost use Rattle.lister.specs.Phases.{IsSound, IsFoundFirst, IsFoundNext, StandsAtFound, found_stage, stage_of};
+
+use crate::descent::{complete, go_back};
+use crate::path::Path;
+use feasibility::Table;
+use outside::Steps;
+use std::sync::ledger::Ledger;
+
+/// Where a walk stands: no size was set, before the first document of the size, at a document, or past the last.
+#[derive(Clone, Copy)]
+pub(crate) enum Phase {
+    Nowhere,
+    Before,
+    At,
+    Past,
+}
+
+// Goes to the first document of a size, if there is one.
+fn find_first<L: Ledger>(path: &mut Path, size: usize, table: &Table, steps: &mut Steps<L>) -> bool
+    requires some { 1 ≤ size }
+    requires most { size ≤ path.old.room }
+    requires grown { size ≤ table.now.grown }
+    ensures first { IsFoundFirst table.now size result path.new }
+    ensures stands { StandsAtFound table.now size result path.new }
+    ensures room { path.new.room ≡ path.old.room }
+    ensures ticks { steps.new ≤ steps.old + 1 + 2 * event_count (lists table.now) * (3 * path.old.room) }
+{
+    table.holds();
+    path.clear();
+    let Some(start) = table.start_id() else {
+        return false;
+    };
+    if table.can_finish(start, size, steps) {
+        complete(path, table, start, size, steps);
+        true
+    } else {
+        false
+    }
+}
+
+// Goes to the next document of the size, if there is one.
+fn find_next<L: Ledger>(path: &mut Path, table: &Table, steps: &mut Steps<L>) -> bool
+    requires { IsDocument table.now path.old }
+    ensures next { IsFoundNext table.now path.old result path.new }
+    ensures stands { StandsAtFound table.now (node_count path.old.codes) result path.new }
+    ensures room { path.new.room ≡ path.old.room }
+    ensures ticks { steps.new ≤ steps.old + 2 * (2 * event_count (lists table.now) * (3 * path.old.room)) }
+{
+    let Some((id, left)) = go_back(path, table, steps) else {
+        return false;
+    };
+    complete(path, table, id, left, steps);
+    true
+}
+
+/// Goes to the next document of a size from where the walk stands, if one follows.
+pub(crate) fn find<L: Ledger>(
+    path: &mut Path,
+    phase: Phase,
+    size: usize,
+    table: &Table,
+    steps: &mut Steps<L>,
+) -> bool
+    requires set { IsSet (stage_of phase path.old) }
+    requires sound { IsSound phase size path.old }
+    requires grown { size ≤ table.now.grown }
+    requires own { IsWalkOf table.now size (stage_of phase path.old) }
+    ensures step { IsStep table.now size (stage_of phase path.old) (found_stage result path.new) }
+    ensures stands { StandsAtFound table.now size result path.new }
+    ensures room { path.new.room ≡ path.old.room }
+    ensures ticks { steps.new ≤ steps.old + 12 * path.old.room * event_count (lists table.now) }
+{
+    match phase {
+        Phase::Before => find_first(path, size, table, steps),
+        Phase::At => find_next(path, table, steps),
+        Phase::Nowhere | Phase::Past => false,
+    }
+}

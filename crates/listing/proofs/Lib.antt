@@ -1,0 +1,5 @@
+pub mod Steps
+pub mod FromSizeToSize
+pub mod StateLines
+pub mod Sums
+pub mod Costs

@@ -1,0 +1,6 @@
+pub mod Progress
+pub mod Endings
+pub mod Counting
+pub mod Doing
+pub mod Summing
+pub mod Costs
