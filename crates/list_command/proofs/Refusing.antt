@@ -67,3 +67,8 @@ pub accepts_given : (bytes : List ℕ) (t : Full) (given : Numbered) (r : Result
     IfOk r (λ s. s ≡ given) → IfOk r (λ s. BreaksNoRule given.schema) → IfOk r (λ s. Accepts bytes s.schema)
 accepts_given bytes t given (Ok s) tree none simple same sound = accepts bytes t s.schema tree none (rw same simple) (rw same sound)
 accepts_given bytes t given (Err e) tree none simple same sound = tt
+
+pub sound_given : (given : Numbered) (r : Result Numbered ReadSchemaFault) → IfOk r (λ s. s ≡ given) → IfOk r (λ s. BreaksNoRule given.schema) →
+    IfOk r (λ s. BreaksNoRule s.schema)
+sound_given given (Ok s) same sound = rw same sound
+sound_given given (Err e) same sound = tt

@@ -1,9 +1,14 @@
-pub mod Words
 pub mod Status
 pub mod Reading
-pub mod Pending
+pub mod Cursors
 pub mod Owed
 pub mod Accepting
 pub mod Refusals
-pub mod Requests
+pub mod Texts
 pub mod Runs
+pub mod Whole
+pub mod Ticks
+pub mod Causes
+pub mod Meanings
+pub mod Asking
+pub mod Laws

@@ -1,75 +1,106 @@
 // What is asked for, done.
-ghost use Rattle.std.specs.Prelude.{◌≡◌, ◌⊎◌, ◌+◌, Some, IfOk, IfErr, IfSome};
-ghost use Rattle.outside.specs.Counts.{Rose, RisesAtMost};
-ghost use Rattle.outside.specs.Devices.{Shelved, IsMissing, length_of};
-ghost use Rattle.list_command.specs.Runs.{AnswersAsOwed, MissesAsOwed, CallsAsAsked, EndsUnread, IsRead, IsFault};
+ghost use Rattle.std.specs.Prelude.{◌≡◌, ◌⊎◌, Some, IfSome};
+ghost use Rattle.rng_model.specs.Texts.{Text};
+ghost use Rattle.rng_model.specs.Restrictions.{BreaksNoRule};
+ghost use Rattle.outside.specs.Counts.{RisesAtMost};
+ghost use Rattle.outside.specs.Devices.{Shelved};
+ghost use Rattle.command_words.specs.Words.{HasFile};
+ghost use Rattle.command_words.specs.Requests.{request_of};
+ghost use Rattle.list_command.specs.Asking.{EndsOver, MissesCursor, cursor_calls};
+ghost use Rattle.list_command.specs.Causes.{HasCauses};
+ghost use Rattle.list_command.specs.Runs.{AnswersAsOwed, MissesAsOwed, CallsAsAsked};
 
-use crate::listing::list;
-use crate::outcome::{Outcome, SchemaFault, refused};
-use crate::schema::{ReadSchemaFault, read_schema};
+use crate::after_cursor::resume;
+use crate::document_list::list;
+use crate::laws::owed_is_asked;
+use crate::outcome::Outcome;
+use crate::schema_file::read_file;
+use crate::seeded::sum_seeded;
+use crate::states::count_states;
 use crate::universe::show_universe;
-use crate::words::CommandLine;
-use outside::{ReadAllFault, Shelf, Sink, read_all};
+use command_words::{Command, CommandLine};
+use outside::{Shelf, Sink, Steps};
 use pattern_intern::Schema;
 use std::alloc::Global;
-
-/// The most bytes that a schema may have.
-const SCHEMA_LIMIT: usize = 1_048_576;
+use std::sync::ledger::Ledger;
 
 /// Does what is asked for.
-pub(crate) fn answer<F: Shelf, O: Sink>(
+pub(crate) fn answer<F: Shelf, O: Sink, L: Ledger>(
     alloc: Global,
     asked: &CommandLine<'_>,
     shelf: &mut F,
     out: &mut O,
+    steps: &mut Steps<L>,
 ) -> Outcome
     ensures owed { (files : Shelved) → F.files shelf.old ≡ Some files →
-        AnswersAsOwed asked.now files (O.taken out.old) (O.taken out.new)
+        AnswersAsOwed (request_of asked.now) files (O.taken out.old) (O.taken out.new)
         (F.faults shelf.old) (F.faults shelf.new) (O.faults out.old) (O.faults out.new) result }
-
-    ensures words { result ≡ Outcome.Words → ⊥ }
-    ensures read_fault { result ≡ Outcome.ReadFault →
-        Rose (F.faults shelf.old) (F.faults shelf.new) ⊎ MissesAsOwed asked.now (F.files shelf.old) }
-    ensures write_fault { result ≡ Outcome.WriteFault → Rose (O.faults out.old) (O.faults out.new) }
-
-    ensures no_fault { IsFault result ⊎ ((F.faults shelf.new ≡ F.faults shelf.old) × (O.faults out.new ≡ O.faults out.old)) }
-    ensures misses { (F.misses shelf.new ≡ F.misses shelf.old) ⊎ MissesAsOwed asked.now (F.files shelf.old) }
-    ensures calls { CallsAsAsked asked.now (F.files shelf.old) (F.calls shelf.old) (F.calls shelf.new) }
+    ensures cause { HasCauses (MissesAsOwed (request_of asked.now) (F.files shelf.old)) (F.faults shelf.old) (F.faults shelf.new)
+        (O.faults out.old) (O.faults out.new) result }
+    ensures misses { (F.misses shelf.new ≡ F.misses shelf.old) ⊎ MissesAsOwed (request_of asked.now) (F.files shelf.old) }
+    ensures calls { CallsAsAsked (request_of asked.now) (F.files shelf.old) (F.calls shelf.old) (F.calls shelf.new) }
 {
-    let schema = match read_file(alloc, asked.file(), shelf) {
-        Ok(schema) => schema,
-        Err(outcome) => return outcome,
+    if let Command::Seeded { number, size } = asked.command {
+        return sum_seeded(alloc, asked, number, size, out, steps);
+    }
+    let Some(file) = asked.command.file() else {
+        unreachable!()
     };
-    match asked {
-        CommandLine::List { file, .. } => list(alloc, &schema, file, out),
-        CommandLine::Universe { .. } => show_universe(alloc, &schema, out),
+    answer_in_file(alloc, file, asked, shelf, out, steps)
+}
+
+/// Does what is asked for with the schema in the file.
+fn answer_in_file<F: Shelf, O: Sink, L: Ledger>(
+    alloc: Global,
+    file: &str,
+    asked: &CommandLine<'_>,
+    shelf: &mut F,
+    out: &mut O,
+    steps: &mut Steps<L>,
+) -> Outcome
+    requires in_file { HasFile (request_of asked.now).command file.now }
+    ensures owed { (files : Shelved) → F.files shelf.old ≡ Some files →
+        AnswersAsOwed (request_of asked.now) files (O.taken out.old) (O.taken out.new)
+        (F.faults shelf.old) (F.faults shelf.new) (O.faults out.old) (O.faults out.new) result }
+    ensures cause { HasCauses (MissesAsOwed (request_of asked.now) (F.files shelf.old)) (F.faults shelf.old) (F.faults shelf.new)
+        (O.faults out.old) (O.faults out.new) result }
+    ensures misses { (F.misses shelf.new ≡ F.misses shelf.old) ⊎ MissesAsOwed (request_of asked.now) (F.files shelf.old) }
+    ensures calls { CallsAsAsked (request_of asked.now) (F.files shelf.old) (F.calls shelf.old) (F.calls shelf.new) }
+{
+    owed_is_asked();
+    match read_file(alloc, file, shelf) {
+        Ok(schema) => answer_over(alloc, schema, asked, shelf, out, steps),
+        Err(outcome) => outcome,
     }
 }
 
-/// The schema in the file, or how the run ends.
-fn read_file<F: Shelf>(alloc: Global, file: &str, shelf: &mut F) -> Result<Schema, Outcome>
-    ensures accepted { (files : Shelved) → F.files shelf.old ≡ Some files → IfOk result (λ schema. IsRead file.now files schema.schema) }
-    ensures owed { (files : Shelved) → F.files shelf.old ≡ Some files → IfErr result (EndsUnread file.now files (F.faults shelf.old) (F.faults shelf.new)) }
-
-    ensures words { IfErr result (λ outcome. outcome ≡ Outcome.Words → ⊥) }
-    ensures read_fault { IfErr result (λ outcome. outcome ≡ Outcome.ReadFault →
-        Rose (F.faults shelf.old) (F.faults shelf.new) ⊎ IsMissing (F.files shelf.old) file.now) }
-    ensures write_fault { IfErr result (λ outcome. outcome ≡ Outcome.WriteFault → ⊥) }
-
-    ensures no_fault { IfErr result (λ outcome. IsFault outcome ⊎ (F.faults shelf.new ≡ F.faults shelf.old)) }
-    ensures kept { IfOk result (λ schema. F.faults shelf.new ≡ F.faults shelf.old) }
-    ensures misses { (F.misses shelf.new ≡ F.misses shelf.old) ⊎ IsMissing (F.files shelf.old) file.now }
-    ensures calls { IfSome (F.files shelf.old) (λ files. RisesAtMost (length_of files file.now + 2) (F.calls shelf.old) (F.calls shelf.new)) }
+/// Does what is asked for with the schema of the command's file.
+fn answer_over<F: Shelf, O: Sink, L: Ledger>(
+    alloc: Global,
+    schema: Schema,
+    asked: &CommandLine<'_>,
+    shelf: &mut F,
+    out: &mut O,
+    steps: &mut Steps<L>,
+) -> Outcome
+    requires sound { BreaksNoRule schema.schema }
+    requires in_file { (file : Text) × HasFile (request_of asked.now).command file }
+    ensures owed { (file : Text) (files : Shelved) → F.files shelf.old ≡ Some files → HasFile (request_of asked.now).command file →
+        EndsOver (request_of asked.now) (O.taken out.old) (O.taken out.new) schema.schema file files
+        (F.faults shelf.old) (F.faults shelf.new) (O.faults out.old) (O.faults out.new) result }
+    ensures cause { HasCauses (MissesCursor (request_of asked.now) (F.files shelf.old)) (F.faults shelf.old) (F.faults shelf.new)
+        (O.faults out.old) (O.faults out.new) result }
+    ensures misses { (F.misses shelf.new ≡ F.misses shelf.old) ⊎ MissesCursor (request_of asked.now) (F.files shelf.old) }
+    ensures calls { IfSome (F.files shelf.old) (λ files.
+        RisesAtMost (cursor_calls files (request_of asked.now).command) (F.calls shelf.old) (F.calls shelf.new)) }
 {
-    let bytes = match read_all(alloc, shelf, file, SCHEMA_LIMIT) {
-        Ok(bytes) => bytes,
-        Err(ReadAllFault::OutOfMemory) => return Err(Outcome::OutOfMemory),
-        Err(ReadAllFault::ReadFault) => return Err(Outcome::ReadFault),
-        Err(ReadAllFault::TooLong) => return Err(refused(alloc, SchemaFault::TooLong, file)),
-    };
-    match read_schema(alloc, bytes.as_slice()) {
-        Ok(schema) => Ok(schema),
-        Err(ReadSchemaFault::OutOfMemory) => Err(Outcome::OutOfMemory),
-        Err(ReadSchemaFault::Refused(fault)) => Err(refused(alloc, fault, file)),
+    match asked.command {
+        Command::List { size, .. } => list(alloc, schema, asked, size, out, steps),
+        Command::Resume { size, cursor, .. } => {
+            resume(alloc, schema, asked, size, cursor, shelf, out, steps)
+        }
+        Command::Universe { .. } => show_universe(alloc, &schema, asked, out),
+        Command::States { size, .. } => count_states(alloc, schema, asked, size, out, steps),
+        Command::Seeded { .. } => unreachable!(),
     }
 }

@@ -1,10 +1,10 @@
 // The fault line of an outcome.
 ghost use Rattle.std.specs.Prelude.{◌≡◌, ◌≤◌, ◌+◌, ◌++◌, Some, length, decimal};
-ghost use Rattle.list_command.specs.Status.{fault_line, schema_fault_text};
+ghost use Rattle.list_command.specs.Status.{fault_line, schema_fault_text, cursor_refusal_text};
 ghost use Rattle.list_command.specs.Runs.{WritesLine, WritesFaultLine};
 
 use crate::line::Line;
-use crate::outcome::{Outcome, SchemaFault};
+use crate::outcome::{CursorRefusal, Outcome, SchemaFault};
 use outside::{Sink, write_all};
 
 /// Writes the fault line of an outcome, where it has one, as one piece. A failed write changes no outcome.
@@ -23,7 +23,7 @@ fn line_of(outcome: &Outcome) -> Option<Line>
 {
     let mut line = Line::new();
     match outcome {
-        Outcome::Done => return None,
+        Outcome::Done | Outcome::Page => return None,
         Outcome::Words => {
             line.text(b"words\n");
             Some(line)
@@ -43,6 +43,18 @@ fn line_of(outcome: &Outcome) -> Option<Line>
         Outcome::SchemaRefused(fault, _) => {
             line.text(b"schema ");
             schema_fault(fault, &mut line);
+            line.text(b"\n");
+            Some(line)
+        }
+        Outcome::CursorRefused(refusal) => {
+            line.text(b"cursor ");
+            cursor_refusal(refusal, &mut line);
+            line.text(b"\n");
+            Some(line)
+        }
+        Outcome::StateLimit { size, count } => {
+            numbered(b"states size ", *size, &mut line);
+            numbered(b" count ", *count, &mut line);
             line.text(b"\n");
             Some(line)
         }
@@ -81,7 +93,6 @@ fn schema_fault(fault: &SchemaFault, line: &mut Line)
         SchemaFault::LiteralTooLong { at } => numbered(b"6 LiteralTooLong at ", *at, line),
         SchemaFault::NameTooLong { at } => numbered(b"7 NameTooLong at ", *at, line),
         SchemaFault::TooLong => line.text(b"8 TooLong"),
-        SchemaFault::NotYet => line.text(b"9 NotYet"),
         SchemaFault::Syntax { at } => numbered(b"11 Syntax at ", *at, line),
         SchemaFault::TooDeep { at } => numbered(b"12 TooDeep at ", *at, line),
         SchemaFault::Include { at } => numbered(b"21 Include at ", *at, line),
@@ -104,5 +115,22 @@ fn schema_fault(fault: &SchemaFault, line: &mut Line)
         SchemaFault::ExpandedTooDeep => line.text(b"42 ExpandedTooDeep"),
         SchemaFault::Restriction { rule } => numbered(b"43 Restriction rule ", *rule, line),
         SchemaFault::BadValue { at } => numbered(b"44 BadValue at ", *at, line),
+    }
+}
+
+/// The number and name of a cursor's refusal, and its line.
+fn cursor_refusal(refusal: &CursorRefusal, line: &mut Line)
+    requires { length line.old ≤ 10 }
+    ensures text { line.new ≡ line.old ++ cursor_refusal_text refusal.now }
+    ensures short { length line.new ≤ 80 }
+{
+    match refusal {
+        CursorRefusal::TooLong => line.text(b"60 TooLong"),
+        CursorRefusal::BadLine { line: at } => numbered(b"61 BadLine line ", *at, line),
+        CursorRefusal::Unfinished => line.text(b"62 Unfinished"),
+        CursorRefusal::Trailing { line: at } => numbered(b"63 Trailing line ", *at, line),
+        CursorRefusal::NotOrdered { line: at } => numbered(b"64 NotOrdered line ", *at, line),
+        CursorRefusal::CursorTooLarge => line.text(b"71 CursorTooLarge"),
+        CursorRefusal::CursorStray { line: at } => numbered(b"72 CursorStray line ", *at, line),
     }
 }

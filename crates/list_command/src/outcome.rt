@@ -24,8 +24,6 @@ pub enum SchemaFault {
     NameTooLong { at: usize },
     /// It has over 1,048,576 bytes.
     TooLong,
-    /// It is accepted so far, but can't be listed yet.
-    NotYet,
     /// The first token with which no schema goes on; the end of the file is a last token.
     Syntax { at: usize },
     /// The first `{` or `(` of nesting level 129.
@@ -72,6 +70,25 @@ pub enum SchemaFault {
     BadValue { at: usize },
 }
 
+/// Why a cursor is refused. Lines are counted from 1.
+#[derive(Clone, Copy, Debug, PartialEq, Eq)]
+pub enum CursorRefusal {
+    /// It has over 2,097,152 bytes.
+    TooLong,
+    /// The first line through which its lines begin no document's text.
+    BadLine { line: usize },
+    /// It begins a document's text, and more would have to follow.
+    Unfinished,
+    /// A document's text, and more behind it; the first line behind it.
+    Trailing { line: usize },
+    /// As BadLine, where the line is an attribute's behind another attribute's, and its name isn't greater.
+    NotOrdered { line: usize },
+    /// A document of more nodes than are asked for.
+    CursorTooLarge,
+    /// A document that isn't listed; the first line through which its events begin no listed document of its size.
+    CursorStray { line: usize },
+}
+
 /// How a run ends.
 #[derive(Debug, Drop)]
 pub enum Outcome {
@@ -81,11 +98,17 @@ pub enum Outcome {
     Words,
     /// The schema is refused; the text is the name of its file.
     SchemaRefused(SchemaFault, Text),
+    /// The cursor is refused.
+    CursorRefused(CursorRefusal),
+    /// More states than the limit are reached with so many nodes; the count is the limit and one.
+    StateLimit { size: usize, count: usize },
     /// A file couldn't be read, or isn't there.
     ReadFault,
     /// The output couldn't be written.
     WriteFault,
     OutOfMemory,
+    /// As many documents as the page limit says are listed.
+    Page,
 }
 
 impl Outcome {
@@ -97,9 +120,12 @@ impl Outcome {
             Outcome::Done => 0,
             Outcome::Words => 2,
             Outcome::SchemaRefused(_, _) => 3,
+            Outcome::CursorRefused(_) => 4,
+            Outcome::StateLimit { .. } => 5,
             Outcome::ReadFault => 6,
             Outcome::WriteFault => 7,
             Outcome::OutOfMemory => 8,
+            Outcome::Page => 9,
         }
     }
 }

@@ -30,6 +30,7 @@ pub(crate) enum ReadSchemaFault {
 pub(crate) fn read_schema(alloc: Global, bytes: &[u8]) -> Result<Schema, ReadSchemaFault>
     requires { length bytes.now ≤ 1048576 }
     ensures accepted { IfOk result (λ schema. Accepts bytes.now schema.schema) }
+    ensures sound { IfOk result (λ schema. BreaksNoRule schema.schema) }
     ensures refused { IfErr result (λ fault. IfRefused (Refuses bytes.now) fault) }
 {
     let full = read_tree(alloc, bytes)?;
@@ -56,6 +57,7 @@ fn read_tree(alloc: Global, bytes: &[u8]) -> Result<Full, ReadSchemaFault>
 fn form_of(alloc: Global, full: &Full) -> Result<Schema, ReadSchemaFault>
     requires { (bytes : List ℕ) × IsTreeOf bytes (full_of full.now) }
     ensures accepted { (bytes : List ℕ) → IsTreeOf bytes (full_of full.now) → IfOk result (λ schema. Accepts bytes schema.schema) }
+    ensures sound { IfOk result (λ schema. BreaksNoRule schema.schema) }
     ensures refused { (bytes : List ℕ) → IsTreeOf bytes (full_of full.now) → IfErr result (λ fault. IfRefused (Refuses bytes) fault) }
 {
     if let Some((feature, at)) = refused_feature(full) {

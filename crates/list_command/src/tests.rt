@@ -11,8 +11,6 @@ const SCHEMA: &str = "element a { empty }";
 
 const TEXT: &str = "(a\n>\n)\n\n";
 
-const NOT_YET: &str = "schema 9 NotYet\n";
-
 /// A run that counts its steps from 0.
 fn counted<L: Ledger>(
     alloc: Global,
@@ -48,7 +46,7 @@ fn calls_of(alloc: Global, failing: Option<u64>) -> Result<Calls, AllocError> {
     Ok(calls)
 }
 
-/// What a run over the file `f` left behind.
+/// What a run left behind.
 #[derive(Drop)]
 struct Ending {
     status: u8,
@@ -64,11 +62,12 @@ impl Ending {
     }
 }
 
-/// A run over the file `f` with these bytes. The shelf gives one byte at a time, and fails at one call, where one is named.
+/// A run over the files `f` and `c` with these bytes. The shelf gives one byte at a time, and fails at one call, where one is named.
 fn run_over(
     alloc: Global,
     words: &str,
     schema: &[u8],
+    cursor: &[u8],
     failing: Option<u64>,
     room: usize,
 ) -> Result<Ending, AllocError> {
@@ -76,6 +75,9 @@ fn run_over(
     let mut files = Files::new(alloc);
     let name = String::from_str(alloc, "f")?;
     let bytes = Vec::from_slice(alloc, schema)?;
+    files.push(name, bytes)?;
+    let name = String::from_str(alloc, "c")?;
+    let bytes = Vec::from_slice(alloc, cursor)?;
     files.push(name, bytes)?;
     let mut shelf = MemShelf::new(files, calls_of(alloc, failing)?, 1);
     let mut out = MemSink::new(alloc, room, Calls::new(alloc), 65_536)?;
@@ -98,7 +100,28 @@ fn gives(
     out: &str,
     err: &str,
 ) -> Result<bool, AllocError> {
-    let ending = run_over(alloc, words, schema, None, 65_536)?;
+    let ending = run_over(alloc, words, schema, b"", None, 65_536)?;
+    Ok(ending.status == status && ending.wrote(out, err))
+}
+
+/// The same where the file `c` has this text.
+fn gives_after(
+    alloc: Global,
+    words: &str,
+    schema: &str,
+    cursor: &str,
+    status: u8,
+    out: &str,
+    err: &str,
+) -> Result<bool, AllocError> {
+    let ending = run_over(
+        alloc,
+        words,
+        schema.as_bytes(),
+        cursor.as_bytes(),
+        None,
+        65_536,
+    )?;
     Ok(ending.status == status && ending.wrote(out, err))
 }
 
@@ -143,8 +166,15 @@ fn rows(rt: HostRuntime) -> Result<(), AllocError> {
             TEXT,
             "",
         ),
-        ("list 1 f", "element a { text }", 3, "", NOT_YET),
-        ("list 1 f", "element a | b { empty }", 3, "", NOT_YET),
+        ("list 1 f", "element a { text }", 0, TEXT, ""),
+        (
+            "list 1 f",
+            "element a | b { empty }",
+            0,
+            "(a\n>\n)\n\n(b\n>\n)\n\n",
+            "",
+        ),
+        ("list 1 f max=1", "element a | b { empty }", 9, TEXT, ""),
         ("list 1 f", "start = a a = element a { empty }", 0, TEXT, ""),
         (
             "list 1 f",
@@ -160,7 +190,7 @@ fn rows(rt: HostRuntime) -> Result<(), AllocError> {
         ("list 1", SCHEMA, 2, "", "words\n"),
         ("universe g", SCHEMA, 6, "", "read\n"),
         ("universe 1 f", SCHEMA, 2, "", "words\n"),
-        ("states 1 f", SCHEMA, 2, "", "words\n"),
+        ("states 0 f", SCHEMA, 2, "", "words\n"),
         ("", SCHEMA, 2, "", "words\n"),
     ];
     for (words, schema, status, out, err) in rows {
@@ -303,18 +333,212 @@ fn universes(rt: HostRuntime) -> Result<(), AllocError> {
     Ok(())
 }
 
+/// Elements `a` within one another.
+const CHAIN: &str = "start = a a = element a { a? }";
+
+const TWO: &str = "(a\n>\n(a\n>\n)\n)\n\n";
+
+const THREE: &str = "(a\n>\n(a\n>\n(a\n>\n)\n)\n)\n\n";
+
+#[test]
+fn listings(rt: HostRuntime) -> Result<(), AllocError> {
+    let rows = [
+        (
+            "list 2 f",
+            "element a { text }",
+            0,
+            "(a\n>\n)\n\n(a\n>\n-t\n)\n\n",
+            "",
+        ),
+        (
+            "list 2 f",
+            "element a { \"x\" | \"y\" }",
+            0,
+            "(a\n>\n-x\n)\n\n(a\n>\n-y\n)\n\n",
+            "",
+        ),
+        (
+            "list 3 f",
+            "element a { element b {empty} & element c {empty} }",
+            0,
+            "(a\n>\n(b\n>\n)\n(c\n>\n)\n)\n\n(a\n>\n(c\n>\n)\n(b\n>\n)\n)\n\n",
+            "",
+        ),
+        (
+            "list 3 f",
+            "element a { attribute * - b { text }* }",
+            0,
+            "(a\n>\n)\n\n(a\nAx t\n>\n)\n\n(a\nA{urn:x}x t\n>\n)\n\n(a\nAx t\nA{urn:x}x t\n>\n)\n\n",
+            "",
+        ),
+        (
+            "list 2 f",
+            "element a { element b { empty } | element b { empty } }",
+            0,
+            "(a\n>\n(b\n>\n)\n)\n\n",
+            "",
+        ),
+        ("list 64 f", "notAllowed", 0, "", ""),
+        ("list 3 f max=1", CHAIN, 9, TEXT, ""),
+        (
+            "list 64 f states=5",
+            CHAIN,
+            5,
+            TEXT,
+            "states size 2 count 6\n",
+        ),
+        ("states 2 f", "notAllowed", 0, "1 0\n2 0\n", ""),
+        ("states 3 f", CHAIN, 0, "1 4\n2 7\n3 10\n", ""),
+        (
+            "seeded 1 64",
+            "",
+            0,
+            "size 43 count 64\nbytes 16256\nsum 806016\n",
+            "",
+        ),
+        ("seeded 1 10", "", 0, "bytes 0\nsum 0\n", ""),
+        ("seeded 1 10 states=1", "", 5, "", "states size 1 count 2\n"),
+    ];
+    for (words, schema, status, out, err) in rows {
+        let holds = gives(rt.alloc(), words, schema.as_bytes(), status, out, err)?;
+        assert!(rt; holds);
+    }
+    Ok(())
+}
+
+#[test]
+fn cursors(rt: HostRuntime) -> Result<(), AllocError> {
+    let rows = [
+        ("resume 3 f c", TWO, 0, THREE, ""),
+        ("resume 3 f c", THREE, 0, "", ""),
+        ("resume 3 f c max=1", TEXT, 9, TWO, ""),
+        (
+            "resume 64 f c states=3",
+            TEXT,
+            5,
+            "",
+            "states size 1 count 4\n",
+        ),
+        ("resume 3 f c", "a\n", 4, "", "cursor 61 BadLine line 1\n"),
+        (
+            "resume 3 f c",
+            "(a\n>\n-t\n-u\n",
+            4,
+            "",
+            "cursor 61 BadLine line 4\n",
+        ),
+        ("resume 3 f c", "", 4, "", "cursor 62 Unfinished\n"),
+        (
+            "resume 3 f c",
+            "(a\n>\n)\n",
+            4,
+            "",
+            "cursor 62 Unfinished\n",
+        ),
+        (
+            "resume 3 f c",
+            "(a\n>\n)\n\n(a\n",
+            4,
+            "",
+            "cursor 63 Trailing line 5\n",
+        ),
+        (
+            "resume 3 f c",
+            "(a\nAc t\nAb t\n>\n)\n\n",
+            4,
+            "",
+            "cursor 64 NotOrdered line 3\n",
+        ),
+        ("resume 2 f c", THREE, 4, "", "cursor 71 CursorTooLarge\n"),
+        (
+            "resume 2 f c states=1",
+            THREE,
+            4,
+            "",
+            "cursor 71 CursorTooLarge\n",
+        ),
+        (
+            "resume 3 f c",
+            "(b\n>\n)\n\n",
+            4,
+            "",
+            "cursor 72 CursorStray line 1\n",
+        ),
+        (
+            "resume 3 f c states=1",
+            "(b\n>\n)\n\n",
+            5,
+            "",
+            "states size 1 count 2\n",
+        ),
+        ("resume 3 f d", TWO, 6, "", "read\n"),
+        ("resume 3 d c", TWO, 6, "", "read\n"),
+        ("resume 3 f", TWO, 2, "", "words\n"),
+    ];
+    for (words, cursor, status, out, err) in rows {
+        let holds = gives_after(rt.alloc(), words, CHAIN, cursor, status, out, err)?;
+        assert!(rt; holds);
+    }
+    Ok(())
+}
+
+#[test]
+fn cursor_limit(rt: HostRuntime) -> Result<(), AllocError> {
+    let alloc = rt.alloc();
+    let cursor = "a".repeat(alloc, 2_097_153)?;
+    let over = gives_after(
+        alloc,
+        "resume 3 f c",
+        CHAIN,
+        cursor.as_str(),
+        4,
+        "",
+        "cursor 60 TooLong\n",
+    )?;
+    assert!(rt; over);
+    Ok(())
+}
+
 #[test]
 fn failing_calls(rt: HostRuntime) -> Result<(), AllocError> {
     let alloc = rt.alloc();
     // An opening, a read for each of 19 bytes, and the read that finds the end.
     for call in 0..21 {
-        let ending = run_over(alloc, "list 1 f", SCHEMA.as_bytes(), Some(call), 65_536)?;
+        let ending = run_over(
+            alloc,
+            "list 1 f",
+            SCHEMA.as_bytes(),
+            b"",
+            Some(call),
+            65_536,
+        )?;
         assert!(rt; ending.status == 6 && ending.wrote("", "read\n"));
     }
-    let whole = run_over(alloc, "list 1 f", SCHEMA.as_bytes(), Some(21), 65_536)?;
+    let whole = run_over(alloc, "list 1 f", SCHEMA.as_bytes(), b"", Some(21), 65_536)?;
     assert!(rt; whole.status == 0 && whole.wrote(TEXT, ""));
-    let cut = run_over(alloc, "list 1 f", SCHEMA.as_bytes(), None, 3)?;
+    let cut = run_over(alloc, "list 1 f", SCHEMA.as_bytes(), b"", None, 3)?;
     assert!(rt; cut.status == 7 && cut.wrote("(a\n", "write\n"));
+    // Then those for the cursor, of 8 bytes.
+    for call in 0..31 {
+        let ending = run_over(
+            alloc,
+            "resume 1 f c",
+            SCHEMA.as_bytes(),
+            TEXT.as_bytes(),
+            Some(call),
+            65_536,
+        )?;
+        assert!(rt; ending.status == 6 && ending.wrote("", "read\n"));
+    }
+    let resumed = run_over(
+        alloc,
+        "resume 1 f c",
+        SCHEMA.as_bytes(),
+        TEXT.as_bytes(),
+        Some(31),
+        65_536,
+    )?;
+    assert!(rt; resumed.status == 0 && resumed.wrote("", ""));
     Ok(())
 }
 
@@ -338,10 +562,10 @@ fn names(
     gives(alloc, "list 1 f", schema.as_bytes(), status, out, err)
 }
 
-/// Whether a schema with a literal of so many letters is refused so.
-fn literals(alloc: Global, letters: usize, err: &str) -> Result<bool, AllocError> {
+/// Whether a schema with a literal of so many letters, which has no document of one node, ends so.
+fn literals(alloc: Global, letters: usize, status: u8, err: &str) -> Result<bool, AllocError> {
     let schema = long(alloc, "element a { \"", letters, "\" }")?;
-    gives(alloc, "list 1 f", schema.as_bytes(), 3, "", err)
+    gives(alloc, "list 1 f", schema.as_bytes(), status, "", err)
 }
 
 #[test]
@@ -352,9 +576,9 @@ fn name_and_literal_limits(rt: HostRuntime) -> Result<(), AllocError> {
     assert!(rt; longest);
     let longer = names(alloc, 1025, 3, "", "schema 7 NameTooLong at 8\n")?;
     assert!(rt; longer);
-    let longest = literals(alloc, 4096, NOT_YET)?;
+    let longest = literals(alloc, 4096, 0, "")?;
     assert!(rt; longest);
-    let longer = literals(alloc, 4097, "schema 6 LiteralTooLong at 12\n")?;
+    let longer = literals(alloc, 4097, 3, "schema 6 LiteralTooLong at 12\n")?;
     assert!(rt; longer);
     Ok(())
 }

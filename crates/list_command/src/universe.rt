@@ -1,30 +1,33 @@
 // The universe and the atoms of a schema, as lines.
-ghost use Rattle.std.specs.Prelude.{◌≡◌, ◌⊎◌, [], IfOk};
+ghost use Rattle.std.specs.Prelude.{◌≡◌, ℕ};
 ghost use Rattle.rng_model.specs.Texts.{Text};
-ghost use Rattle.rng_model.specs.Universe.{AreLists};
-ghost use Rattle.outside.specs.Counts.{Rose};
-ghost use Rattle.event_lines.specs.Coded.{lists_of};
-ghost use Rattle.list_command.specs.Requests.{plain_universe};
-ghost use Rattle.list_command.specs.Runs.{EndsRead, IsFault};
+ghost use Rattle.outside.specs.Devices.{Shelved};
+ghost use Rattle.command_words.specs.Words.{Command as CommandValue};
+ghost use Rattle.command_words.specs.Requests.{request_of};
+ghost use Rattle.list_command.specs.Causes.{HasWriteCause};
+ghost use Rattle.list_command.specs.Asking.{EndsOver};
 
 use crate::laws::one_is_owed;
 use crate::outcome::Outcome;
+use crate::table::names_and_texts;
+use command_words::CommandLine;
 use event_lines::write_universe;
-use name_universe::Universe;
 use outside::Sink;
 use pattern_intern::Schema;
-use std::alloc::{AllocError, Global};
-use text_atoms::{Atoms, TextList};
+use std::alloc::Global;
 
 /// Writes the names and texts of the schema.
-pub(crate) fn show_universe<O: Sink>(alloc: Global, schema: &Schema, out: &mut O) -> Outcome
-    ensures owed { (file : Text) → EndsRead schema.now.schema (plain_universe file) (O.taken out.old) (O.taken out.new) (O.faults out.old) (O.faults out.new) result }
-    ensures words { result ≡ Outcome.Words → ⊥ }
-    ensures read_fault { result ≡ Outcome.ReadFault → ⊥ }
-    ensures write_fault { result ≡ Outcome.WriteFault → Rose (O.faults out.old) (O.faults out.new) }
-    ensures no_fault { IsFault result ⊎ (O.faults out.new ≡ O.faults out.old) }
+pub(crate) fn show_universe<O: Sink>(
+    alloc: Global,
+    schema: &Schema,
+    asked: &CommandLine<'_>,
+    out: &mut O,
+) -> Outcome
+    ensures owed { (file : Text) (files : Shelved) (reads : ℕ) → (request_of asked.now).command ≡ CommandValue.universe file →
+        EndsOver (request_of asked.now) (O.taken out.old) (O.taken out.new) schema.now.schema file files reads reads (O.faults out.old) (O.faults out.new) result }
+    ensures cause { HasWriteCause (O.faults out.old) (O.faults out.new) result }
 {
-    let Ok((universe, atoms)) = names_and_texts(alloc, schema) else {
+    let Ok((universe, atoms)) = names_and_texts(alloc, schema, asked) else {
         return Outcome::OutOfMemory;
     };
     one_is_owed();
@@ -32,14 +35,4 @@ pub(crate) fn show_universe<O: Sink>(alloc: Global, schema: &Schema, out: &mut O
         Ok(()) => Outcome::Done,
         Err(_) => Outcome::WriteFault,
     }
-}
-
-/// The names and texts of the schema, with one fresh name in each namespace and no extra text.
-fn names_and_texts(alloc: Global, schema: &Schema) -> Result<(Universe, Atoms), AllocError>
-    ensures { IfOk result (λ l. AreLists schema.now.schema 1 [] (lists_of l.0 l.1)) }
-{
-    let universe = Universe::of(alloc, schema, 1)?;
-    let literals = schema.literals(alloc)?;
-    let atoms = Atoms::of(alloc, &literals, &TextList::new(alloc))?;
-    Ok((universe, atoms))
 }

@@ -2,13 +2,16 @@
 ghost use Rattle.std.specs.Prelude.{◌≡◌, ◌⊎◌, ◌↔◌, ◌≤◌, ◌++◌, [], ℕ, List, Some, map, string_bytes};
 ghost use Rattle.outside.specs.Counts.{Rose};
 ghost use Rattle.outside.specs.Devices.{Shelved};
-ghost use Rattle.list_command.specs.Words.{HasNoForm};
+ghost use Rattle.command_words.specs.Words.{HasNoForm};
+ghost use Rattle.list_command.specs.Causes.{HasCauses};
+ghost use Rattle.list_command.specs.Whole.{EndsWhole};
 ghost use Rattle.list_command.specs.Runs.{EndsAsOwed, IsReadFaultOwed, IsFault, CallsAsNeeded, WritesFaultLine};
 
 use crate::answering::answer;
 use crate::fault_lines::write_fault_line;
+use crate::laws::fitting_runs_are_whole;
 use crate::outcome::Outcome;
-use crate::words::read_words;
+use command_words::read_words;
 use outside::{Shelf, Sink, Steps};
 use std::alloc::Global;
 use std::sync::ledger::Ledger;
@@ -27,6 +30,9 @@ pub fn run<F: Shelf, O: Sink, E: Sink, L: Ledger>(
         EndsAsOwed (map string_bytes words.now.items) files (O.taken out.old) (O.taken out.new)
         (F.faults shelf.old) (F.faults shelf.new) (O.faults out.old) (O.faults out.new) result }
 
+    ensures whole { (files : Shelved) → F.files shelf.old ≡ Some files →
+        EndsWhole (map string_bytes words.now.items) files (F.faults shelf.old) (F.faults shelf.new) (O.faults out.old) (O.faults out.new) result }
+
     // For every shelf and sink, telling or not.
     ensures words { (result ≡ Outcome.Words) ↔ HasNoForm (map string_bytes words.now.items) }
     ensures read_fault { result ≡ Outcome.ReadFault →
@@ -39,30 +45,34 @@ pub fn run<F: Shelf, O: Sink, E: Sink, L: Ledger>(
     ensures calls { CallsAsNeeded (map string_bytes words.now.items) (F.files shelf.old) (F.calls shelf.old) (F.calls shelf.new) }
 
     ensures line { WritesFaultLine result (E.taken err.old) (E.taken err.new) (E.faults err.old) (E.faults err.new) }
-    ensures ticks { steps.new ≡ steps.old }
 {
-    let outcome = obey(alloc, words.as_slice(), shelf, out);
+    fitting_runs_are_whole();
+    let outcome = obey(alloc, words.as_slice(), shelf, out, steps);
     write_fault_line(&outcome, err);
     outcome
 }
 
 /// Does what the words ask for.
-fn obey<F: Shelf, O: Sink>(alloc: Global, words: &[String], shelf: &mut F, out: &mut O) -> Outcome
+fn obey<F: Shelf, O: Sink, L: Ledger>(
+    alloc: Global,
+    words: &[String],
+    shelf: &mut F,
+    out: &mut O,
+    steps: &mut Steps<L>,
+) -> Outcome
     ensures owed { (files : Shelved) → F.files shelf.old ≡ Some files →
         EndsAsOwed (map string_bytes words.now) files (O.taken out.old) (O.taken out.new)
         (F.faults shelf.old) (F.faults shelf.new) (O.faults out.old) (O.faults out.new) result }
 
     ensures words { (result ≡ Outcome.Words) ↔ HasNoForm (map string_bytes words.now) }
-    ensures read_fault { result ≡ Outcome.ReadFault →
-        Rose (F.faults shelf.old) (F.faults shelf.new) ⊎ IsReadFaultOwed (map string_bytes words.now) (F.files shelf.old) }
-    ensures write_fault { result ≡ Outcome.WriteFault → Rose (O.faults out.old) (O.faults out.new) }
-
-    ensures no_fault { IsFault result ⊎ ((F.faults shelf.new ≡ F.faults shelf.old) × (O.faults out.new ≡ O.faults out.old)) }
+    ensures cause { (result ≡ Outcome.Words) ⊎ HasCauses (IsReadFaultOwed (map string_bytes words.now) (F.files shelf.old))
+        (F.faults shelf.old) (F.faults shelf.new) (O.faults out.old) (O.faults out.new) result }
+    ensures kept { result ≡ Outcome.Words → (F.faults shelf.new ≡ F.faults shelf.old) × (O.faults out.new ≡ O.faults out.old) }
     ensures misses { (F.misses shelf.new ≡ F.misses shelf.old) ⊎ IsReadFaultOwed (map string_bytes words.now) (F.files shelf.old) }
     ensures calls { CallsAsNeeded (map string_bytes words.now) (F.files shelf.old) (F.calls shelf.old) (F.calls shelf.new) }
 {
     let Some(asked) = read_words(words) else {
         return Outcome::Words;
     };
-    answer(alloc, &asked, shelf, out)
+    answer(alloc, &asked, shelf, out, steps)
 }

@@ -44,7 +44,7 @@ fn status_of<L: Ledger, R: Files + Clone + Drop, O: Write + Drop, E: Write + Dro
     if out.flush().is_ok() {
         return outcome.status();
     }
-    if matches!(outcome, Outcome::Done) {
+    if matches!(outcome, Outcome::Done | Outcome::Page) {
         write_fault_line(&Outcome::WriteFault, err);
     }
     Outcome::WriteFault.status()

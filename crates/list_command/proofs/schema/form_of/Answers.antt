@@ -1,5 +1,5 @@
 use Rattle.schema_tree.specs.Files.{full_of}
-use Rattle.list_command.proofs.Refusing.{refuses_feature, whole_tree, all_taken, accepts_given}
+use Rattle.list_command.proofs.Refusing.{refuses_feature, whole_tree, all_taken, accepts_given, sound_given}
 use Rattle.list_command.proofs.schema.form_of.Goals as goal
 
 pub returns-in-Some-clause-refused : goal.returns-in-Some-clause-refused
@@ -19,3 +19,6 @@ returns-in-Ok-clause-refused c = λ bytes tree. c.unbroken.ensures.refused bytes
 
 pub returns-in-Err-clause-refused : goal.returns-in-Err-clause-refused
 returns-in-Err-clause-refused c = λ bytes tree. c.no_form.ensures bytes (full_of c.args.full.now) (tree, all_taken (full_of c.args.full.now) c.in_default.ensures) c.in-Err.ensures.refused
+
+pub returns-in-Ok-clause-sound : goal.returns-in-Ok-clause-sound
+returns-in-Ok-clause-sound c = sound_given c.in-Ok.schema c.unbroken.result c.unbroken.ensures.same c.unbroken.ensures.sound

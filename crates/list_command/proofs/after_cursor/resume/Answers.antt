@@ -1,0 +1,31 @@
+use Rattle.std.proofs.Common.{refl}
+use Rattle.feasibility.specs.Tables.{lists}
+use Rattle.command_words.specs.Requests.{request_of}
+use Rattle.list_command.proofs.Exits.{ends_unwritten}
+use Rattle.list_command.proofs.Causes.{read_causes, write_causes}
+use Rattle.list_command.proofs.Calls.{rises_not}
+use Rattle.list_command.proofs.Cursors.{ends_at_file}
+use Rattle.list_command.proofs.after_cursor.resume.Goals as goal
+
+pub returns-in_default-clause-owed : goal.returns-in_default-clause-owed
+returns-in_default-clause-owed g c = λ file files asks told words form read. ends_unwritten words files _ _ _ _ (request_of c.args.asked.now) form
+
+pub returns-in_default-clause-calls : goal.returns-in_default-clause-calls
+returns-in_default-clause-calls g c = rises_not _ _ _
+
+pub returns-in-Ok-read_cursor-clause-owed : goal.returns-in-Ok-read_cursor-clause-owed
+returns-in-Ok-read_cursor-clause-owed g c = λ file files asks told words form read.
+    let cursor = c.in-Ok-read_cursor.ensures.read files told in
+    rw c.in-Ok-read_cursor.ensures.kept
+    (c.list_after.ensures.owed c.args.schema.schema file c.args.cursor.now c.in-Ok.ensures.asked asks files cursor _ words form read)
+
+pub returns-in-Ok-read_cursor-clause-cause : goal.returns-in-Ok-read_cursor-clause-cause
+returns-in-Ok-read_cursor-clause-cause g c = write_causes _ _ _ _ _ c.list_after.result c.in-Ok-read_cursor.ensures.kept c.list_after.ensures.cause
+
+pub returns-clause-owed : goal.returns-clause-owed
+returns-clause-owed g c = λ file files asks told words form read.
+    ends_at_file words files (request_of c.args.asked.now) form c.args.size.nodes file c.args.cursor.now c.args.schema.schema asks read _ _ _ _
+    (lists c.in-Ok.table) c.in-Ok.ensures.asked.lists c.in-Err.outcome (c.in-Err.ensures.owed files told)
+
+pub returns-clause-cause : goal.returns-clause-cause
+returns-clause-cause g c = read_causes _ _ _ _ _ c.in-Err.outcome refl c.in-Err.ensures.cause

@@ -1,0 +1,9 @@
+use Rattle.command_words.specs.Requests.{request_of}
+use Rattle.list_command.proofs.Exits.{ends_unwritten}
+use Rattle.list_command.proofs.seeded.sum_schema.Goals as goal
+
+pub returns-in_default-clause-owed : goal.returns-in_default-clause-owed
+returns-in_default-clause-owed g c = λ z asks accepts words files form reads. ends_unwritten words files _ _ _ _ (request_of c.args.asked.now) form
+
+pub returns-clause-owed : goal.returns-clause-owed
+returns-clause-owed g c = λ z asks. c.sum_table.ensures.owed c.args.schema.schema z c.in-Ok.ensures.asked asks
