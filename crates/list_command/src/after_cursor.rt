@@ -50,8 +50,15 @@ pub(crate) fn resume<F: Shelf, O: Sink, L: Ledger>(
         return Outcome::OutOfMemory;
     };
     match read_cursor(alloc, cursor, shelf) {
-        Ok(cursor) => list_after(alloc, &mut table, asked, size, &cursor, out, steps),
-        Err(outcome) => outcome,
+        Ok(cursor) => {
+            let outcome = list_after(alloc, &mut table, asked, size, &cursor, out, steps);
+            drop(table);
+            outcome
+        }
+        Err(outcome) => {
+            drop(table);
+            outcome
+        }
     }
 }
 

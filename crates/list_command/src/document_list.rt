@@ -68,5 +68,6 @@ pub(crate) fn list<O: Sink, L: Ledger>(
         out,
         steps,
     );
+    drop(table);
     outcome_of(end)
 }

@@ -16,8 +16,6 @@ mod schema_file;
 mod seeded;
 mod states;
 mod table;
-#[cfg(test)]
-mod tests;
 mod universe;
 mod whole_run;
 

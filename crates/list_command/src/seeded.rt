@@ -66,7 +66,9 @@ fn sum_schema<O: Sink, L: Ledger>(
     let Ok(mut table) = table_of(alloc, schema, asked) else {
         return Outcome::OutOfMemory;
     };
-    sum_table(alloc, &mut table, asked, size, out, steps)
+    let outcome = sum_table(alloc, &mut table, asked, size, out, steps);
+    drop(table);
+    outcome
 }
 
 /// Sums up what is listed over the table.

@@ -37,5 +37,7 @@ pub(crate) fn count_states<O: Sink, L: Ledger>(
         return Outcome::OutOfMemory;
     };
     owed_is_asked();
-    outcome_of(write_counts(&mut table, size.nodes as usize, out, steps))
+    let end = write_counts(&mut table, size.nodes as usize, out, steps);
+    drop(table);
+    outcome_of(end)
 }

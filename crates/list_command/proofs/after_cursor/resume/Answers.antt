@@ -17,15 +17,15 @@ pub returns-in-Ok-read_cursor-clause-owed : goal.returns-in-Ok-read_cursor-claus
 returns-in-Ok-read_cursor-clause-owed g c = λ file files asks told words form read.
     let cursor = c.in-Ok-read_cursor.ensures.read files told in
     rw c.in-Ok-read_cursor.ensures.kept
-    (c.list_after.ensures.owed c.args.schema.schema file c.args.cursor.now c.in-Ok.ensures.asked asks files cursor _ words form read)
+    (c.list_after-outcome.ensures.owed c.args.schema.schema file c.args.cursor.now c.in-Ok.ensures.asked asks files cursor _ words form read)
 
 pub returns-in-Ok-read_cursor-clause-cause : goal.returns-in-Ok-read_cursor-clause-cause
-returns-in-Ok-read_cursor-clause-cause g c = write_causes _ _ _ _ _ c.list_after.result c.in-Ok-read_cursor.ensures.kept c.list_after.ensures.cause
+returns-in-Ok-read_cursor-clause-cause g c = write_causes _ _ _ _ _ c.list_after-outcome.result c.in-Ok-read_cursor.ensures.kept c.list_after-outcome.ensures.cause
 
-pub returns-clause-owed : goal.returns-clause-owed
-returns-clause-owed g c = λ file files asks told words form read.
+pub returns-in-Err-clause-owed : goal.returns-in-Err-clause-owed
+returns-in-Err-clause-owed g c = λ file files asks told words form read.
     ends_at_file words files (request_of c.args.asked.now) form c.args.size.nodes file c.args.cursor.now c.args.schema.schema asks read _ _ _ _
     (lists c.in-Ok.table) c.in-Ok.ensures.asked.lists c.in-Err.outcome (c.in-Err.ensures.owed files told)
 
-pub returns-clause-cause : goal.returns-clause-cause
-returns-clause-cause g c = read_causes _ _ _ _ _ c.in-Err.outcome refl c.in-Err.ensures.cause
+pub returns-in-Err-clause-cause : goal.returns-in-Err-clause-cause
+returns-in-Err-clause-cause g c = read_causes _ _ _ _ _ c.in-Err.outcome refl c.in-Err.ensures.cause

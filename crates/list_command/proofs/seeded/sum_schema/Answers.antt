@@ -6,4 +6,4 @@ pub returns-in_default-clause-owed : goal.returns-in_default-clause-owed
 returns-in_default-clause-owed g c = λ z asks accepts words files form reads. ends_unwritten words files _ _ _ _ (request_of c.args.asked.now) form
 
 pub returns-clause-owed : goal.returns-clause-owed
-returns-clause-owed g c = λ z asks. c.sum_table.ensures.owed c.args.schema.schema z c.in-Ok.ensures.asked asks
+returns-clause-owed g c = λ z asks. c.sum_table-outcome.ensures.owed c.args.schema.schema z c.in-Ok.ensures.asked asks

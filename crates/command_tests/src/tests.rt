@@ -1,7 +1,7 @@
 // Runs over a shelf and sinks in memory: the bytes, the fault line and the status.
 ghost use Rattle.std.specs.Prelude.{◌≡◌, ◌<◌};
 
-use crate::{Outcome, run};
+use list_command::{Outcome, run};
 use outside::{Calls, Files, MemShelf, MemSink, Steps};
 use std::alloc::{AllocError, Global};
 use std::marker::Brand;

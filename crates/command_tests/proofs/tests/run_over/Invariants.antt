@@ -1,4 +1,4 @@
-use Rattle.list_command.proofs.tests.run_over.Given as goal
+use Rattle.command_tests.proofs.tests.run_over.Given as goal
 
 abbrev pub ghosts-counted : goal.ghosts-counted
 ghosts-counted a = record { name = a.blank.name; parts = a.blank.parts }
