@@ -1,0 +1,3 @@
+pub mod TextSets
+pub mod Joining
+pub mod Numbering
