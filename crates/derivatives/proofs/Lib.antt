@@ -7,4 +7,4 @@ pub mod Opened
 pub mod Turns
 pub mod Untaken
 pub mod Accepting
-pub mod WholeTexts
+pub mod KeepingTexts

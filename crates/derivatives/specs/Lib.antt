@@ -1,6 +1,7 @@
 pub mod Views
 pub mod Steps
 pub mod Kept
+pub mod KeptTexts
 pub mod Spines
 pub mod Grown
 pub mod Takes

@@ -8,11 +8,13 @@ ghost use Rattle.rng_model.specs.Patterns.{choice};
 ghost use Rattle.rng_model.specs.Texts.{is_white};
 ghost use Rattle.pattern_intern.specs.Stored.{Extends, class_at, count, tree_at};
 ghost use Rattle.derivatives.specs.Kept.{AreRight};
+ghost use Rattle.derivatives.specs.KeptTexts.{AreTextResults};
 
 use crate::results::Results;
 use crate::sides::{empty_where, grouped, interleaved, repeated};
 use crate::spine::spine;
 use crate::text::text_step;
+use crate::text_results::TextResults;
 use name_classes::Name;
 use pattern_intern::{ClassId, Node, PatternId, Pool, Schema};
 use std::alloc::AllocError;
@@ -21,15 +23,15 @@ use text_atoms::{Text, is_white};
 // Whether the content of an attribute takes the text: white space may stand for nothing.
 fn takes(
     schema: &mut Schema,
-    texts: &mut Results,
+    texts: &mut TextResults,
     text: &Text,
     content: PatternId,
 ) -> Result<bool, AllocError>
     requires inside { content.0 < count schema.old.pool }
-    requires texts { AreRight (text_step text.now) schema.old.pool texts.old }
+    requires texts { AreTextResults text.now schema.old.pool texts.old }
     ensures taken { IfOk result (λ b. b ≡ ((nullable (tree_at schema.old.pool content.0) && is_white text.now) || nullable (text_step text.now (tree_at schema.old.pool content.0)))) }
     ensures kept { Extends schema.old.pool schema.new.pool }
-    ensures texts { AreRight (text_step text.now) schema.new.pool texts.new }
+    ensures texts { AreTextResults text.now schema.new.pool texts.new }
     ensures schema { schema.new.schema ≡ schema.old.schema }
 {
     let white = schema.pool().nullable(content) && is_white(text.as_str());
@@ -40,7 +42,7 @@ fn takes(
 // An attribute after one: empty where the name is in its class and its content takes the text.
 fn after_attribute(
     schema: &mut Schema,
-    texts: &mut Results,
+    texts: &mut TextResults,
     name: &Name,
     text: &Text,
     class: ClassId,
@@ -48,11 +50,11 @@ fn after_attribute(
 ) -> Result<PatternId, AllocError>
     requires class { class.0 < length schema.old.pool.classes }
     requires inside { content.0 < count schema.old.pool }
-    requires texts { AreRight (text_step text.now) schema.old.pool texts.old }
+    requires texts { AreTextResults text.now schema.old.pool texts.old }
     ensures within { IfOk result (λ r. r.0 < count schema.new.pool) }
     ensures made { IfOk result (λ r. tree_at schema.new.pool r.0 ≡ where_true (in_class name.now (class_at schema.old.pool class.0) && ((nullable (tree_at schema.old.pool content.0) && is_white text.now) || nullable (text_step text.now (tree_at schema.old.pool content.0)))) pattern.empty) }
     ensures kept { Extends schema.old.pool schema.new.pool }
-    ensures texts { AreRight (text_step text.now) schema.new.pool texts.new }
+    ensures texts { AreTextResults text.now schema.new.pool texts.new }
     ensures schema { schema.new.schema ≡ schema.old.schema }
 {
     if !schema.pool().class(class).contains(name) {
@@ -85,19 +87,19 @@ fn attribute_of_leaf(pool: &Pool, name: &Name, text: &Text, id: PatternId) -> Op
 pub(crate) fn attribute_step(
     schema: &mut Schema,
     kept: &mut Results,
-    texts: &mut Results,
+    texts: &mut TextResults,
     name: &Name,
     text: &Text,
     id: PatternId,
 ) -> Result<PatternId, AllocError>
     requires inside { id.0 < count schema.old.pool }
     requires right { AreRight (attribute_step name.now text.now) schema.old.pool kept.old }
-    requires texts { AreRight (text_step text.now) schema.old.pool texts.old }
+    requires texts { AreTextResults text.now schema.old.pool texts.old }
     ensures within { IfOk result (λ r. r.0 < count schema.new.pool) }
     ensures made { IfOk result (λ r. tree_at schema.new.pool r.0 ≡ attribute_step name.now text.now (tree_at schema.old.pool id.0)) }
     ensures kept { Extends schema.old.pool schema.new.pool }
     ensures right { AreRight (attribute_step name.now text.now) schema.new.pool kept.new }
-    ensures texts { AreRight (text_step text.now) schema.new.pool texts.new }
+    ensures texts { AreTextResults text.now schema.new.pool texts.new }
     ensures schema { schema.new.schema ≡ schema.old.schema }
 {
     if let Some(made) = attribute_of_leaf(schema.pool(), name, text, id) {
@@ -117,19 +119,19 @@ pub(crate) fn attribute_step(
 fn attribute_of(
     schema: &mut Schema,
     kept: &mut Results,
-    texts: &mut Results,
+    texts: &mut TextResults,
     name: &Name,
     text: &Text,
     id: PatternId,
 ) -> Result<PatternId, AllocError>
     requires inside { id.0 < count schema.old.pool }
     requires right { AreRight (attribute_step name.now text.now) schema.old.pool kept.old }
-    requires texts { AreRight (text_step text.now) schema.old.pool texts.old }
+    requires texts { AreTextResults text.now schema.old.pool texts.old }
     ensures within { IfOk result (λ r. r.0 < count schema.new.pool) }
     ensures made { IfOk result (λ r. tree_at schema.new.pool r.0 ≡ attribute_step name.now text.now (tree_at schema.old.pool id.0)) }
     ensures kept { Extends schema.old.pool schema.new.pool }
     ensures right { AreRight (attribute_step name.now text.now) schema.new.pool kept.new }
-    ensures texts { AreRight (text_step text.now) schema.new.pool texts.new }
+    ensures texts { AreTextResults text.now schema.new.pool texts.new }
     ensures schema { schema.new.schema ≡ schema.old.schema }
 {
     match schema.pool().node(id) {
@@ -169,7 +171,7 @@ fn attribute_of(
 fn attribute_members(
     schema: &mut Schema,
     kept: &mut Results,
-    texts: &mut Results,
+    texts: &mut TextResults,
     name: &Name,
     text: &Text,
     id: PatternId,
@@ -181,12 +183,12 @@ fn attribute_members(
     requires others { others.0 < id.0 }
     requires tree { tree_at schema.old.pool id.0 ≡ choice (tree_at schema.old.pool first.0) (tree_at schema.old.pool others.0) }
     requires right { AreRight (attribute_step name.now text.now) schema.old.pool kept.old }
-    requires texts { AreRight (text_step text.now) schema.old.pool texts.old }
+    requires texts { AreTextResults text.now schema.old.pool texts.old }
     ensures within { IfOk result (λ r. r.0 < count schema.new.pool) }
     ensures made { IfOk result (λ r. tree_at schema.new.pool r.0 ≡ attribute_step name.now text.now (tree_at schema.old.pool id.0)) }
     ensures kept { Extends schema.old.pool schema.new.pool }
     ensures right { AreRight (attribute_step name.now text.now) schema.new.pool kept.new }
-    ensures texts { AreRight (text_step text.now) schema.new.pool texts.new }
+    ensures texts { AreTextResults text.now schema.new.pool texts.new }
     ensures schema { schema.new.schema ≡ schema.old.schema }
 {
     let (mut firsts, last) = spine(schema.pool(), id, first, others)?;

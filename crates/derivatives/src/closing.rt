@@ -5,11 +5,14 @@ ghost use Rattle.rng_model.specs.Derivatives.{close, ending, text_step, where_tr
 ghost use Rattle.rng_model.specs.Matching.{nullable};
 ghost use Rattle.rng_model.specs.Patterns.{choice};
 ghost use Rattle.pattern_intern.specs.Stored.{Extends, count, tree_at};
+ghost use Rattle.value_sets.specs.Numbers.{AreSets};
 ghost use Rattle.derivatives.specs.Kept.{AreRight};
+ghost use Rattle.derivatives.specs.KeptTexts.{AreTextResults};
 
 use crate::results::Results;
 use crate::spine::spine;
 use crate::text::text_step;
+use crate::text_results::TextResults;
 use pattern_intern::{Node, PatternId, Pool, Schema};
 use std::alloc::AllocError;
 use text_atoms::Text;
@@ -185,16 +188,18 @@ fn ending_members(
 
 /// The pattern after the end of an element in which no text or element was read: an empty text may have stood there. Results after the
 /// empty text are kept by number.
+#[tactic(auto, using(crate::proofs::KeepingTexts::sets_extend))]
 pub(crate) fn fresh_ending(
     schema: &mut Schema,
-    texts: &mut Results,
+    texts: &mut TextResults,
     id: PatternId,
 ) -> Result<PatternId, AllocError>
     requires inside { id.0 < count schema.old.pool }
-    requires right { AreRight (text_step []) schema.old.pool texts.old }
+    requires texts { AreTextResults [] schema.old.pool texts.old }
     ensures within { IfOk result (λ r. r.0 < count schema.new.pool) }
     ensures made { IfOk result (λ r. tree_at schema.new.pool r.0 ≡ ending (choice_of (tree_at schema.old.pool id.0) (text_step [] (tree_at schema.old.pool id.0)))) }
     ensures kept { Extends schema.old.pool schema.new.pool }
+    ensures sets { AreSets schema.new.pool texts.new.choices }
     ensures schema { schema.new.schema ≡ schema.old.schema }
 {
     let nothing = Text::from_string(String::new(schema.allocator()));

@@ -7,7 +7,6 @@
 mod attribute;
 mod closing;
 mod grow;
-mod leaves;
 mod more;
 mod name_taken;
 mod opening;
@@ -18,6 +17,7 @@ mod states;
 mod stepper;
 mod taking;
 mod text;
+mod text_results;
 mod text_taken;
 mod visits;
 

@@ -18,6 +18,7 @@ use crate::opening::opening;
 use crate::results::Results;
 use crate::states::{Place, State};
 use crate::text::text_step;
+use crate::text_results::TextResults;
 use derivative_laws::acceptance_is_matching;
 use name_universe::Universe;
 use outside::Steps;
@@ -38,14 +39,15 @@ fn is_not_allowed(pool: &Pool, id: PatternId) -> bool
 }
 
 /// A schema with its universe and atoms, over which codes lead from state to state. Its pool grows with each step. The functions'
-/// results within a step stand in tables that are cleared at the next; what patterns are after a tag is kept for all steps.
+/// results within a step stand in tables that are cleared at the next; what patterns are after a tag and what choices take of texts is
+/// kept for all steps.
 #[derive(Drop)]
 pub struct Derivatives {
     schema: Schema,
     universe: Universe,
     atoms: Atoms,
     kept: Results,
-    inside: Results,
+    texts: TextResults,
     closed: Results,
 }
 
@@ -53,6 +55,7 @@ impl Model for Derivatives {
     ghost use Rattle.std.specs.Coded.{codes};
     ghost use Rattle.pattern_intern.specs.Schemas.{numbered_code};
     ghost use Rattle.rng_model.specs.Derivatives.{close};
+    ghost use Rattle.value_sets.specs.Numbers.{AreSets};
     ghost use Rattle.derivatives.specs.Kept.{AreRight};
     ghost use Rattle.derivatives.specs.Views.{Machine, machine};
 
@@ -62,7 +65,7 @@ impl Model for Derivatives {
 
     ghost view = { λ d. machine d.schema d.universe d.atoms };
 
-    ghost invariant = { λ d. AreRight close d.schema.pool d.closed };
+    ghost invariant = { λ d. AreRight close d.schema.pool d.closed × AreSets d.schema.pool d.texts.choices };
 }
 
 impl Derivatives {
@@ -76,7 +79,7 @@ impl Derivatives {
             universe,
             atoms,
             kept: Results::new(alloc),
-            inside: Results::new(alloc),
+            texts: TextResults::new(alloc),
             closed: Results::new(alloc),
         }
     }
@@ -240,6 +243,7 @@ impl Derivatives {
     }
 
     // After the end of a tag.
+    #[tactic(auto, using(crate::proofs::KeepingTexts::sets_extend))]
     fn body(&mut self, state: State) -> Result<Option<State>, AllocError>
         requires { state.pattern.0 < count self.old.numbered.pool }
         ensures some { IfOk result (λ r. IfSome r (λ t. IsNext self.old self.new state Body t)) }
@@ -299,7 +303,7 @@ impl Derivatives {
     }
 
     // What may follow an element's name.
-    #[tactic(auto, using(crate::proofs::Keeping::right_extends))]
+    #[tactic(auto, using(crate::proofs::Keeping::right_extends, crate::proofs::KeepingTexts::sets_extend))]
     fn opened(&mut self, pattern: PatternId, name: usize) -> Result<PatternId, AllocError>
         requires inside { pattern.0 < count self.old.numbered.pool }
         requires name { name < length (lists self.old).elements }
@@ -314,7 +318,7 @@ impl Derivatives {
     }
 
     // What may follow an attribute.
-    #[tactic(auto, using(crate::proofs::Keeping::right_extends))]
+    #[tactic(auto, using(crate::proofs::Keeping::right_extends, crate::proofs::KeepingTexts::sets_extend))]
     fn attributed(
         &mut self,
         pattern: PatternId,
@@ -331,13 +335,13 @@ impl Derivatives {
         ensures keeps { Keeps self.old self.new }
     {
         self.kept.clear();
-        self.inside.clear();
+        self.texts.clear();
         let name = self.universe.attributes().get(name);
         let text = self.atoms.get(text);
         attribute_step(
             &mut self.schema,
             &mut self.kept,
-            &mut self.inside,
+            &mut self.texts,
             name,
             text,
             pattern,
@@ -345,7 +349,7 @@ impl Derivatives {
     }
 
     // What may follow a text.
-    #[tactic(auto, using(crate::proofs::Keeping::right_extends))]
+    #[tactic(auto, using(crate::proofs::Keeping::right_extends, crate::proofs::KeepingTexts::sets_extend))]
     fn said(&mut self, pattern: PatternId, text: usize) -> Result<PatternId, AllocError>
         requires inside { pattern.0 < count self.old.numbered.pool }
         requires text { text < length (lists self.old).atoms }
@@ -354,13 +358,13 @@ impl Derivatives {
             (slice_index_or (lists self.old).atoms text []) (tree_at self.old.numbered.pool pattern.0)) }
         ensures keeps { Keeps self.old self.new }
     {
-        self.kept.clear();
+        self.texts.clear();
         let text = self.atoms.get(text);
-        text_step(&mut self.schema, &mut self.kept, text, pattern)
+        text_step(&mut self.schema, &mut self.texts, text, pattern)
     }
 
     // What may follow the end of an element after its last text or element.
-    #[tactic(auto, using(crate::proofs::Keeping::right_extends))]
+    #[tactic(auto, using(crate::proofs::Keeping::right_extends, crate::proofs::KeepingTexts::sets_extend))]
     fn ended(&mut self, pattern: PatternId) -> Result<PatternId, AllocError>
         requires { pattern.0 < count self.old.numbered.pool }
         ensures within { IfOk result (λ r. r.0 < count self.new.numbered.pool) }
@@ -371,7 +375,7 @@ impl Derivatives {
     }
 
     // What may follow the end of an element in which there was nothing, or an empty text.
-    #[tactic(auto, using(crate::proofs::Keeping::right_extends))]
+    #[tactic(auto, using(crate::proofs::Keeping::right_extends, crate::proofs::KeepingTexts::sets_extend))]
     fn ended_fresh(&mut self, pattern: PatternId) -> Result<PatternId, AllocError>
         requires { pattern.0 < count self.old.numbered.pool }
         ensures within { IfOk result (λ r. r.0 < count self.new.numbered.pool) }
@@ -379,7 +383,7 @@ impl Derivatives {
             (choice_of (tree_at self.old.numbered.pool pattern.0) (derivative.text_step [] (tree_at self.old.numbered.pool pattern.0)))) }
         ensures keeps { Keeps self.old self.new }
     {
-        self.kept.clear();
-        fresh_ending(&mut self.schema, &mut self.kept, pattern)
+        self.texts.clear();
+        fresh_ending(&mut self.schema, &mut self.texts, pattern)
     }
 }

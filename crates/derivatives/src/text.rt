@@ -4,15 +4,15 @@ ghost use Rattle.rng_model.specs.Derivatives.{text_step, where_true};
 ghost use Rattle.rng_model.specs.Matching.{nullable};
 ghost use Rattle.rng_model.specs.Patterns.{choice};
 ghost use Rattle.pattern_intern.specs.Stored.{Extends, count, tree_at};
-ghost use Rattle.derivatives.specs.Kept.{AreRight};
+ghost use Rattle.derivatives.specs.KeptTexts.{AreTextResults};
 
-use crate::leaves::{leaf_takes, leaves_take};
-use crate::results::Results;
 use crate::sides::{empty_where, interleaved, passed, repeated};
 use crate::spine::spine;
+use crate::text_results::TextResults;
 use pattern_intern::{Node, PatternId, Pool, Schema};
 use std::alloc::AllocError;
 use text_atoms::Text;
+use value_sets::leaf_takes;
 
 // The pattern after a text, where it can be told without a step of a part.
 #[tactic(auto, unfolding(rng_model::specs::Derivatives::text_step))]
@@ -35,26 +35,26 @@ fn text_of_leaf(pool: &Pool, text: &Text, id: PatternId) -> Option<PatternId>
 #[tactic(auto, unfolding(rng_model::specs::Derivatives::text_step))]
 pub(crate) fn text_step(
     schema: &mut Schema,
-    kept: &mut Results,
+    kept: &mut TextResults,
     text: &Text,
     id: PatternId,
 ) -> Result<PatternId, AllocError>
     requires inside { id.0 < count schema.old.pool }
-    requires right { AreRight (text_step text.now) schema.old.pool kept.old }
+    requires right { AreTextResults text.now schema.old.pool kept.old }
     ensures within { IfOk result (λ r. r.0 < count schema.new.pool) }
     ensures made { IfOk result (λ r. tree_at schema.new.pool r.0 ≡ text_step text.now (tree_at schema.old.pool id.0)) }
     ensures kept { Extends schema.old.pool schema.new.pool }
-    ensures right { AreRight (text_step text.now) schema.new.pool kept.new }
+    ensures right { AreTextResults text.now schema.new.pool kept.new }
     ensures schema { schema.new.schema ≡ schema.old.schema }
 {
     if let Some(made) = text_of_leaf(schema.pool(), text, id) {
         return Ok(made);
     }
-    if let Some(made) = kept.get(id) {
+    if let Some(made) = kept.results.get(id) {
         return Ok(made);
     }
     let made = text_of(schema, kept, text, id)?;
-    kept.put(id, made)?;
+    kept.results.put(id, made)?;
     Ok(made)
 }
 
@@ -63,16 +63,16 @@ pub(crate) fn text_step(
 #[tactic(auto, unfolding(rng_model::specs::Derivatives::text_step))]
 fn text_of(
     schema: &mut Schema,
-    kept: &mut Results,
+    kept: &mut TextResults,
     text: &Text,
     id: PatternId,
 ) -> Result<PatternId, AllocError>
     requires inside { id.0 < count schema.old.pool }
-    requires right { AreRight (text_step text.now) schema.old.pool kept.old }
+    requires right { AreTextResults text.now schema.old.pool kept.old }
     ensures within { IfOk result (λ r. r.0 < count schema.new.pool) }
     ensures made { IfOk result (λ r. tree_at schema.new.pool r.0 ≡ text_step text.now (tree_at schema.old.pool id.0)) }
     ensures kept { Extends schema.old.pool schema.new.pool }
-    ensures right { AreRight (text_step text.now) schema.new.pool kept.new }
+    ensures right { AreTextResults text.now schema.new.pool kept.new }
     ensures schema { schema.new.schema ≡ schema.old.schema }
 {
     match schema.pool().node(id) {
@@ -86,7 +86,7 @@ fn text_of(
             let left = text_step(schema, kept, text, part)?;
             repeated(schema, left, part)
         }
-        Node::Choice(first, others) => match leaves_take(schema.pool(), text, id) {
+        Node::Choice(first, others) => match kept.choices.takes(schema.pool(), text, id)? {
             Some(taken) => Ok(empty_where(schema.pool(), taken)),
             None => text_members(schema, kept, text, id, first, others),
         },
@@ -121,18 +121,18 @@ fn text_of(
 #[cycle(text)]
 fn text_passed(
     schema: &mut Schema,
-    kept: &mut Results,
+    kept: &mut TextResults,
     text: &Text,
     first: PatternId,
     second: PatternId,
 ) -> Result<PatternId, AllocError>
     requires first { first.0 < count schema.old.pool }
     requires second { second.0 < count schema.old.pool }
-    requires right { AreRight (text_step text.now) schema.old.pool kept.old }
+    requires right { AreTextResults text.now schema.old.pool kept.old }
     ensures within { IfOk result (λ r. r.0 < count schema.new.pool) }
     ensures made { IfOk result (λ r. tree_at schema.new.pool r.0 ≡ where_true (nullable (tree_at schema.old.pool first.0)) (text_step text.now (tree_at schema.old.pool second.0))) }
     ensures kept { Extends schema.old.pool schema.new.pool }
-    ensures right { AreRight (text_step text.now) schema.new.pool kept.new }
+    ensures right { AreTextResults text.now schema.new.pool kept.new }
     ensures schema { schema.new.schema ≡ schema.old.schema }
 {
     if schema.pool().nullable(first) {
@@ -146,7 +146,7 @@ fn text_passed(
 #[cycle(text)]
 fn text_members(
     schema: &mut Schema,
-    kept: &mut Results,
+    kept: &mut TextResults,
     text: &Text,
     id: PatternId,
     first: PatternId,
@@ -156,11 +156,11 @@ fn text_members(
     requires first { first.0 < id.0 }
     requires others { others.0 < id.0 }
     requires tree { tree_at schema.old.pool id.0 ≡ choice (tree_at schema.old.pool first.0) (tree_at schema.old.pool others.0) }
-    requires right { AreRight (text_step text.now) schema.old.pool kept.old }
+    requires right { AreTextResults text.now schema.old.pool kept.old }
     ensures within { IfOk result (λ r. r.0 < count schema.new.pool) }
     ensures made { IfOk result (λ r. tree_at schema.new.pool r.0 ≡ text_step text.now (tree_at schema.old.pool id.0)) }
     ensures kept { Extends schema.old.pool schema.new.pool }
-    ensures right { AreRight (text_step text.now) schema.new.pool kept.new }
+    ensures right { AreTextResults text.now schema.new.pool kept.new }
     ensures schema { schema.new.schema ≡ schema.old.schema }
 {
     let (mut firsts, last) = spine(schema.pool(), id, first, others)?;

@@ -12,7 +12,7 @@ use Rattle.value_sets.specs.declared.value_set.ValueSet.{ValueSet}
 abbrev pub set_of : ValueSets → PatternId → Option (Option ValueSet)
 set_of sets id = lookup (same_number id) sets.sets.entries
 
--- the set takes what the number's pattern takes; none where that isn't a whole text or none
+-- the set takes what the number's pattern takes; none is made of other patterns
 pub record IsSetOf (s : Stored) (id : PatternId) (set : Option ValueSet) : Type 0 where
   pub number : id.0 < count s
   pub takes : IfSome set (λ x. Takes x (tree_at s id.0))

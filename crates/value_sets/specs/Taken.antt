@@ -1,4 +1,4 @@
--- Which texts a set takes, and which a choice of patterns that take a whole text or none.
+-- Which texts a set takes, and which patterns take a whole text or none.
 use Rattle.std.specs.Prelude.{◌≡◌, Bool, true, false, ◌&&◌, ◌||◌}
 use Rattle.std.specs.List.{list_any}
 use Rattle.std.specs.Str.{bytes_eq}
@@ -24,7 +24,7 @@ test_takes s (DataType k) = allows (kind_of k) s
 abbrev pub takes_of : ValueSet → Text → Bool
 takes_of set s = has set.strings s || has set.tokens (normal s) || list_any (test_takes s) set.others.items
 
--- a pattern that takes a whole text or none, and no choice
+-- a pattern that is neither any text nor has parts that take a text: it takes a whole text or none
 abbrev pub is_leaf : Pattern → Bool
 is_leaf not_allowed = true
 is_leaf empty = true
@@ -34,12 +34,12 @@ is_leaf (data_type k) = true
 is_leaf (attribute c p) = true
 is_leaf _ = false
 
--- such a pattern, or a choice of such
+-- such a pattern, or a choice of such members
 abbrev pub is_whole : Pattern → Bool
 is_whole (choice p q) = is_leaf p && is_whole q
 is_whole p = is_leaf p
 
--- such a pattern takes the text
+-- whether such a pattern takes the text
 abbrev pub leaf_takes : Text → Pattern → Bool
 leaf_takes s (value k v) = equal k s v
 leaf_takes s (data_type k) = allows k s
@@ -49,6 +49,6 @@ leaf_takes s _ = false
 pub record Adds (old : ValueSet) (test : Text → Bool) (new : ValueSet) : Type 0 where
   pub takes : (s : Text) → takes_of new s ≡ (takes_of old s || test s)
 
--- the set takes the texts that the pattern takes, and nothing is left behind one
+-- the set has the texts that the pattern takes, and nothing has to follow one
 pub record Takes (set : ValueSet) (p : Pattern) : Type 0 where
   pub step : (s : Text) → text_step s p ≡ where_true (takes_of set s) empty

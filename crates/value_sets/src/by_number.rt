@@ -30,8 +30,8 @@ impl ValueSets {
         }
     }
 
-    /// Whether the pattern of the number takes the whole text; none where it may leave something behind one. Where memory is wanting, the
-    /// sets are right too.
+    /// Whether the choice of the number takes the text; none where a member has parts or is any text. Where memory is wanting, the sets are
+    /// right too.
     pub fn takes(
         &mut self,
         pool: &Pool,

@@ -35,7 +35,7 @@ impl ValueSet {
         }
     }
 
-    /// The texts that the choice of a number takes; none where a member may leave something behind a text.
+    /// The texts that the choice of a number takes; none where a member has parts or is any text.
     pub(crate) fn of(pool: &Pool, id: PatternId) -> Result<Option<ValueSet>, AllocError>
         requires { id.0 < count pool.now }
         ensures takes { IfOk result (λ r. IfSome r (λ set. Takes set (tree_at pool.now id.0))) }
@@ -84,7 +84,7 @@ impl ValueSet {
         self.others.iter().any(|test| test.takes(text))
     }
 
-    // Adds what a member takes, unless it may leave something behind a text.
+    // Adds what a member takes, unless it has parts or is any text.
     #[tactic(auto, using(crate::proofs::Joining::adds_nothing))]
     fn add(&mut self, pool: &Pool, member: PatternId) -> Result<bool, AllocError>
         requires { member.0 < count pool.now }

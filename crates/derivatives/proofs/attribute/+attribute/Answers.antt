@@ -5,6 +5,7 @@ use Rattle.derivatives.proofs.Choicewise.{attribute_choices}
 use Rattle.derivatives.proofs.Turns.{next_within, right_made, spine_of}
 use Rattle.derivatives.proofs.Joining.{joins_last, next_below, joins_next}
 use Rattle.derivatives.proofs.Keeping.{right_extends, right_put}
+use Rattle.derivatives.proofs.KeepingTexts.{texts_extend}
 use Rattle.derivatives.proofs.attribute.+attribute.Goals as goal
 
 pub attribute_members-loop-member-init : goal.attribute_members-loop-member-init
@@ -25,7 +26,7 @@ pub attribute_members-loop-member-preserved : goal.attribute_members-loop-member
 attribute_members-loop-member-preserved t c = record {
   joined = joins_next _ _ _ _ _ _ _ _ _ _ _ _ c.loop-member.invariant.joined c.in-Some.ensures.items c.requires.inside c.attribute_step-in-Some.ensures.kept c.in_ok-made.ensures.made c.choice.ensures.kept c.in_ok-rest-2.ensures.within c.in_ok-rest-2.ensures.made;
   right = right_extends _ _ _ _ c.attribute_step-in-Some.ensures.right c.choice.ensures.kept;
-  texts = right_extends _ _ _ _ c.attribute_step-in-Some.ensures.texts c.choice.ensures.kept;
+  texts = texts_extend _ _ _ _ c.attribute_step-in-Some.ensures.texts c.choice.ensures.kept;
   schema = c.choice.ensures.schema ∙ c.attribute_step-in-Some.ensures.schema ∙ c.loop-member.invariant.schema;
 }
 
@@ -33,25 +34,25 @@ pub attribute_of-returns-in_ok-left-in-OneOrMore-clause-right : goal.attribute_o
 attribute_of-returns-in_ok-left-in-OneOrMore-clause-right t c = right_extends _ _ _ _ c.attribute_step.ensures.right c.repeated.ensures.kept
 
 pub attribute_of-returns-in_ok-left-in-OneOrMore-clause-texts : goal.attribute_of-returns-in_ok-left-in-OneOrMore-clause-texts
-attribute_of-returns-in_ok-left-in-OneOrMore-clause-texts t c = right_extends _ _ _ _ c.attribute_step.ensures.texts c.repeated.ensures.kept
+attribute_of-returns-in_ok-left-in-OneOrMore-clause-texts t c = texts_extend _ _ _ _ c.attribute_step.ensures.texts c.repeated.ensures.kept
 
 pub attribute_of-returns-in_ok-right-in-Group-clause-right : goal.attribute_of-returns-in_ok-right-in-Group-clause-right
 attribute_of-returns-in_ok-right-in-Group-clause-right t c = right_extends _ _ _ _ c.attribute_step-in-Group-2.ensures.right c.grouped.ensures.kept
 
 pub attribute_of-returns-in_ok-right-in-Group-clause-texts : goal.attribute_of-returns-in_ok-right-in-Group-clause-texts
-attribute_of-returns-in_ok-right-in-Group-clause-texts t c = right_extends _ _ _ _ c.attribute_step-in-Group-2.ensures.texts c.grouped.ensures.kept
+attribute_of-returns-in_ok-right-in-Group-clause-texts t c = texts_extend _ _ _ _ c.attribute_step-in-Group-2.ensures.texts c.grouped.ensures.kept
 
 pub attribute_of-returns-in_ok-right-in-Interleave-clause-right : goal.attribute_of-returns-in_ok-right-in-Interleave-clause-right
 attribute_of-returns-in_ok-right-in-Interleave-clause-right t c = right_extends _ _ _ _ c.attribute_step-in-Interleave-2.ensures.right c.interleaved.ensures.kept
 
 pub attribute_of-returns-in_ok-right-in-Interleave-clause-texts : goal.attribute_of-returns-in_ok-right-in-Interleave-clause-texts
-attribute_of-returns-in_ok-right-in-Interleave-clause-texts t c = right_extends _ _ _ _ c.attribute_step-in-Interleave-2.ensures.texts c.interleaved.ensures.kept
+attribute_of-returns-in_ok-right-in-Interleave-clause-texts t c = texts_extend _ _ _ _ c.attribute_step-in-Interleave-2.ensures.texts c.interleaved.ensures.kept
 
 pub attribute_of-returns-in_ok-left-in-After-clause-right : goal.attribute_of-returns-in_ok-left-in-After-clause-right
 attribute_of-returns-in_ok-left-in-After-clause-right t c = right_extends _ _ _ _ c.attribute_step-in-After.ensures.right c.after.ensures.kept
 
 pub attribute_of-returns-in_ok-left-in-After-clause-texts : goal.attribute_of-returns-in_ok-left-in-After-clause-texts
-attribute_of-returns-in_ok-left-in-After-clause-texts t c = right_extends _ _ _ _ c.attribute_step-in-After.ensures.texts c.after.ensures.kept
+attribute_of-returns-in_ok-left-in-After-clause-texts t c = texts_extend _ _ _ _ c.attribute_step-in-After.ensures.texts c.after.ensures.kept
 
 pub attribute_of-returns-in-Attribute-clause-right : goal.attribute_of-returns-in-Attribute-clause-right
 attribute_of-returns-in-Attribute-clause-right t c = right_extends _ _ _ _ c.requires.right c.after_attribute.ensures.kept

@@ -1,7 +1,8 @@
 -- The number falls; the last members' results are joined.
 use Rattle.std.proofs.Common.{◌≡◌, ◌+◌, ◌*◌, length}
-use Rattle.rng_model.specs.Derivatives.{attribute_step, text_step}
+use Rattle.rng_model.specs.Derivatives.{attribute_step}
 use Rattle.derivatives.specs.Kept.{AreRight}
+use Rattle.derivatives.specs.KeptTexts.{AreTextResults}
 use Rattle.derivatives.specs.Spines.{IsJoined}
 use Rattle.derivatives.proofs.attribute.+attribute.Given as goal
 
@@ -18,7 +19,7 @@ abbrev pub invariant-attribute_members-loop-member : goal.invariant-attribute_me
 invariant-attribute_members-loop-member l = record {
   joined : IsJoined (attribute_step l.name l.text) l.fn.schema.pool l.fn.id.0 l.firsts.items l.rest l.schema.pool;
   right : AreRight (attribute_step l.name l.text) l.schema.pool l.kept;
-  texts : AreRight (text_step l.text) l.schema.pool l.texts;
+  texts : AreTextResults l.text l.schema.pool l.texts;
   schema : l.schema.schema ≡ l.fn.schema.schema;
 }
 

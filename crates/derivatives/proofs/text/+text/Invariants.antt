@@ -1,7 +1,7 @@
 -- The number falls; the last members' results are joined.
 use Rattle.std.proofs.Common.{◌≡◌, ◌+◌, ◌*◌, length}
 use Rattle.rng_model.specs.Derivatives.{text_step}
-use Rattle.derivatives.specs.Kept.{AreRight}
+use Rattle.derivatives.specs.KeptTexts.{AreTextResults}
 use Rattle.derivatives.specs.Spines.{IsJoined}
 use Rattle.derivatives.proofs.text.+text.Given as goal
 
@@ -17,7 +17,7 @@ decreases-text_members l = 3 * l.id.0
 abbrev pub invariant-text_members-loop-member : goal.invariant-text_members-loop-member
 invariant-text_members-loop-member l = record {
   joined : IsJoined (text_step l.text) l.fn.schema.pool l.fn.id.0 l.firsts.items l.rest l.schema.pool;
-  right : AreRight (text_step l.text) l.schema.pool l.kept;
+  right : AreTextResults l.text l.schema.pool l.kept;
   schema : l.schema.schema ≡ l.fn.schema.schema;
 }
 
