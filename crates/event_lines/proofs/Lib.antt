@@ -5,3 +5,5 @@ pub mod Written
 pub mod Coding
 pub mod Counting
 pub mod Schemas
+pub mod Ranges
+pub mod Spelling

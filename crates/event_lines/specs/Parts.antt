@@ -15,6 +15,10 @@ name_line first n = (first ∷ []) ++ name_spelling n ++ codes "\n"
 abbrev pub text_line : ℕ → Text → Text
 text_line first t = (first ∷ []) ++ flat_map text_escape t ++ codes "\n"
 
+-- what stands before the text in an attribute's line
+abbrev pub attribute_front : Name → Text
+attribute_front n = codes "A" ++ name_spelling n ++ codes " "
+
 -- an attribute's name and text
 abbrev pub attribute_line : Name → Text → Text
 attribute_line n t = (codes "A" ++ name_spelling n) ++ text_line 32 t

@@ -2,12 +2,15 @@
 #![tactic(auto)]
 
 mod codes;
+mod collected;
 mod counted;
 mod escapes;
 mod line_buffer;
 mod lines;
 mod measuring;
+mod piece_list;
 mod pieces;
+mod spellings;
 mod universe;
 mod writing;
 
@@ -16,6 +19,7 @@ pub use counted::Measure;
 pub use line_buffer::LineBuffer;
 pub use line_reader::{LineFault, read_skeleton};
 pub use measuring::measure;
+pub use spellings::Spellings;
 pub use universe::write_universe;
 pub use writing::{WriteFault, write_codes, write_name_line, write_skeleton, write_text_line};
 

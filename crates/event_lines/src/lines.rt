@@ -3,7 +3,7 @@ ghost use Rattle.std.specs.Prelude.{◌≡◌, [], codes, flat_map, OnOk, OnErr}
 ghost use Rattle.rng_model.specs.Lines.{event_line};
 ghost use Rattle.skeleton.specs.Views.{event_of};
 ghost use Rattle.event_lines.specs.Pieces.{Sends, Fails, progress};
-ghost use Rattle.event_lines.specs.Parts.{name_line, text_line, attribute_line, lines_of};
+ghost use Rattle.event_lines.specs.Parts.{name_line, text_line, attribute_line, attribute_front, lines_of};
 
 use crate::line_buffer::LineBuffer;
 use crate::pieces::{end_line, flush, put, put_name, put_text};
@@ -12,7 +12,7 @@ use outside::{Failed, Sink};
 use skeleton::Event;
 use text_atoms::Text;
 
-/// Puts a line as it is, its line end included.
+/// Puts bytes as they are, and hands them over with what is held: a line, its line end included, or the end of one.
 pub(crate) fn put_line<O: Sink>(
     buffer: &mut LineBuffer,
     sink: &mut O,
@@ -62,6 +62,23 @@ pub(crate) fn put_text_line<O: Sink>(
     put(buffer, sink, &[first])?;
     put_text(buffer, sink, text)?;
     end_line(buffer, sink)
+}
+
+/// Puts what stands before the text in the line of an attribute, and hands it over.
+pub(crate) fn put_attribute_front<O: Sink>(
+    buffer: &mut LineBuffer,
+    sink: &mut O,
+    name: &Name,
+) -> Result<(), Failed>
+    ensures ok { OnOk result (Sends (progress (O.taken sink.old) buffer.old (O.faults sink.old))
+        (progress (O.taken sink.new) buffer.new (O.faults sink.new)) (attribute_front name.now)) }
+    ensures empty { OnOk result (buffer.new ≡ []) }
+    ensures err { OnErr result (Fails (progress (O.taken sink.old) buffer.old (O.faults sink.old))
+        (progress (O.taken sink.new) buffer.new (O.faults sink.new)) (attribute_front name.now)) }
+{
+    put(buffer, sink, b"A")?;
+    put_name(buffer, sink, name)?;
+    put_line(buffer, sink, b" ")
 }
 
 /// Puts the line of an attribute.

@@ -1,7 +1,7 @@
 // The text of a skeleton, and how many pieces it is handed over in.
 use crate::{
-    LineBuffer, Measure, are_in_range, measure, read_skeleton, write_codes, write_name_line,
-    write_skeleton, write_text_line,
+    LineBuffer, Measure, Spellings, are_in_range, measure, read_skeleton, write_codes,
+    write_name_line, write_skeleton, write_text_line,
 };
 use name_classes::{Name, NameClass};
 use name_universe::Universe;
@@ -121,16 +121,23 @@ fn universe(alloc: Global) -> Result<Universe, Fail> {
     Ok(Universe::of(alloc, &schema, 1)?)
 }
 
-/// Whether codes over these names and the text `t` are written as the bytes, and their measure.
-fn coded(alloc: Global, codes: &[Code], bytes: &[u8]) -> Result<Option<Measure>, Fail> {
+/// The measure of codes over these names and the text `t`, where they are written as the bytes though the write of this number, counted
+/// from 0, fails.
+fn coded(
+    alloc: Global,
+    codes: &[Code],
+    failing: u64,
+    bytes: &[u8],
+) -> Result<Option<Measure>, Fail> {
     let universe = universe(alloc)?;
     let atoms = Atoms::of(alloc, &Literals::new(alloc), &TextList::new(alloc))?;
-    let mut sink = sink(alloc, 1000, 1000)?;
+    let spellings = Spellings::of(alloc, &universe, &atoms)?;
+    let mut sink = sink(alloc, failing, 1000)?;
     if !are_in_range(codes, &universe, &atoms) {
         return Ok(None);
     }
     let mut buffer = LineBuffer::new();
-    let done = write_codes(codes, &universe, &atoms, &mut buffer, &mut sink).is_ok();
+    let done = write_codes(codes, &spellings, &mut buffer, &mut sink).is_ok();
     let measure = measure(codes, &universe, &atoms);
     Ok(Some(measure).filter(|_| done && sink.taken() == bytes))
 }
@@ -141,7 +148,7 @@ fn codes(rt: HostRuntime) -> Result<(), Fail> {
     let bytes = b"(a\n>\n)\n\n".as_slice();
     let one = [Code::Opening(0), Code::Body, Code::Closing];
     let measure = Measure { bytes: 8, sum: 280 };
-    assert!(rt; coded(alloc, &one, bytes)? == Some(measure));
+    assert!(rt; coded(alloc, &one, 4, bytes)? == Some(measure));
     let all = [
         Code::Opening(1),
         Code::Attr(0, 0),
@@ -150,7 +157,9 @@ fn codes(rt: HostRuntime) -> Result<(), Fail> {
         Code::Closing,
     ];
     let bytes = b"(x\nA{urn:x}x t\n>\n-t\n)\n\n".as_slice();
-    assert!(rt; coded(alloc, &all, bytes)?.is_some());
-    assert!(rt; coded(alloc, &[Code::Chars(1)], bytes)?.is_none());
+    // A line is one piece, and so is the empty line.
+    assert!(rt; coded(alloc, &all, 6, bytes)?.is_some());
+    assert!(rt; coded(alloc, &all, 5, bytes)?.is_none());
+    assert!(rt; coded(alloc, &[Code::Chars(1)], 2, bytes)?.is_none());
     Ok(())
 }

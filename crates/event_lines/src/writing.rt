@@ -5,17 +5,19 @@ ghost use Rattle.outside.specs.Counts.{HasCause};
 ghost use Rattle.outside.specs.Devices.{AppendsFront};
 ghost use Rattle.rng_model.specs.Events.{Event};
 ghost use Rattle.rng_model.specs.Lines.{skeleton_text};
+ghost use Rattle.rng_model.specs.Universe.{Lists};
 ghost use Rattle.event_lines.specs.Parts.{name_line, text_line};
-ghost use Rattle.event_lines.specs.Coded.{AreInRange, AreCodesOf, lists_of, events_text};
+ghost use Rattle.event_lines.specs.Coded.{AreCodesOf, events_text};
+ghost use Rattle.event_lines.specs.Spelled.{AreSpellings, AreSpelled};
 
 use crate::codes::put_codes;
 use crate::line_buffer::LineBuffer;
 use crate::lines::{put_events, put_name_line, put_text_line};
+use crate::spellings::Spellings;
 use name_classes::Name;
-use name_universe::Universe;
 use outside::{Failed, Sink};
 use skeleton::{Code, Skeleton};
-use text_atoms::{Atoms, Text};
+use text_atoms::Text;
 use thiserror::Error;
 
 /// A sink failed, and its count of faults rose.
@@ -38,26 +40,25 @@ pub fn write_skeleton<O: Sink>(skeleton: &Skeleton, sink: &mut O) -> Result<(), 
     }
 }
 
-/// Appends the lines of the events that the codes are by position in the lists of names and atoms, and an empty line: where the events
-/// are a skeleton's, this is its text. It is handed over as by `write_skeleton`, through the caller's buffer, which is made once for many
-/// calls; what it holds before a call doesn't matter. No memory is taken.
+/// Appends the lines of the events that the codes are by position in the lists whose spellings are given, and an empty line: where the
+/// events are a skeleton's, this is its text. It is handed over as by `write_skeleton`, an attribute's line through the caller's buffer.
+/// Spellings and buffer are made once for many calls; what the buffer holds before a call doesn't matter. No memory is taken.
 pub fn write_codes<O: Sink>(
     codes: &[Code],
-    universe: &Universe,
-    atoms: &Atoms,
+    spellings: &Spellings,
     buffer: &mut LineBuffer,
     sink: &mut O,
 ) -> Result<(), WriteFault>
-    requires { AreInRange (lists_of universe.now atoms.now) codes.now }
-    ensures ok { (es : List Event) → AreCodesOf (lists_of universe.now atoms.now) es codes.now →
+    requires { AreSpelled spellings.now codes.now }
+    ensures ok { (u : Lists) (es : List Event) → AreSpellings u spellings.now → AreCodesOf u es codes.now →
         OnOk result (Appends (O.taken sink.old) (O.taken sink.new) (events_text es)) }
-    ensures err { (es : List Event) → AreCodesOf (lists_of universe.now atoms.now) es codes.now →
+    ensures err { (u : Lists) (es : List Event) → AreSpellings u spellings.now → AreCodesOf u es codes.now →
         OnErr result (AppendsFront (O.taken sink.old) (O.taken sink.new) (events_text es)) }
     ensures told { is_some (O.taken sink.new) ≡ is_some (O.taken sink.old) }
     ensures cause { HasCause (O.faults sink.old) (O.faults sink.new) result }
 {
     buffer.clear();
-    match put_codes(buffer, sink, codes, universe, atoms) {
+    match put_codes(buffer, sink, codes, spellings) {
         Ok(()) => Ok(()),
         Err(Failed) => Err(WriteFault),
     }
