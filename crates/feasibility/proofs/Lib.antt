@@ -1,6 +1,7 @@
 pub mod Adding
 pub mod Apart
 pub mod Beginning
+pub mod Columns
 pub mod Costing
 pub mod Cutting
 pub mod Departing
@@ -16,9 +17,11 @@ pub mod Merging
 pub mod Moving
 pub mod Naming
 pub mod Ordered
+pub mod Parts
 pub mod Passing
 pub mod Rowing
 pub mod Searching
+pub mod Settling
 pub mod Sharing
 pub mod Shortness
 pub mod Sizes

@@ -1,5 +1,6 @@
 pub mod Alikes
 pub mod Arcs
+pub mod Bits
 pub mod Costs
 pub mod Exploring
 pub mod Families

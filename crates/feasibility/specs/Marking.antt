@@ -83,10 +83,6 @@ pub record AreMarked (e : Explorer) (levels : List ℕ) (bound : ℕ) (marks : L
   pub many : bound ≤ length marks
   pub all : (rest k n : ℕ) → rest < bound → k + rest ≡ e.level → slice_get levels k ≡ Some n → HasMarks marks rest n
 
--- the list of so many nodes has marks of exactly the states below the number
-abbrev pub HasLength : List (List Bool) → ℕ → ℕ → Type 0
-HasLength marks rest n = (list : List Bool) × (slice_get marks rest ≡ Some list) × (length list ≡ n)
-
 -- the lists of fewer nodes stay
 pub record Stay (rest : ℕ) (old new : List (List Bool)) : Type 0 where
   pub longer : length old ≤ length new

@@ -12,6 +12,7 @@ mod following;
 mod growing;
 mod known;
 mod mark_list;
+mod mark_words;
 mod marks;
 mod next_codes;
 mod note;

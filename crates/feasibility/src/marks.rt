@@ -1,31 +1,38 @@
 // Which states can finish with how many nodes.
-ghost use Rattle.std.specs.Prelude.{◌≡◌, ◌+◌, ◌-◌, ◌<◌, ◌≤◌, ◌↔◌, [], Bool, List, Some, IsTrue, length, slice_get, take, map, IfOk, OnOk};
+ghost use Rattle.std.specs.Prelude.{◌≡◌, ◌+◌, ◌-◌, ◌<◌, ◌≤◌, ◌↔◌, [], ◌∷◌, ◌++◌, Bool, List, Some, IsTrue, length, slice_get, slice_set, take, map, IfOk, OnErr, OnOk};
 ghost use Rattle.rng_model.specs.Matching.{nullable};
+ghost use Rattle.feasibility.specs.Bits.{list_of};
 ghost use Rattle.feasibility.specs.declared.explorer.Explorer.{Explorer as ExplorerValue};
 ghost use Rattle.feasibility.specs.Exploring.{IsExploring, at, found};
 ghost use Rattle.feasibility.specs.Grown.{IsGrown};
-ghost use Rattle.feasibility.specs.Marking.{AreMarks, AreMarked, AreReady, AreRight, Finishes, FinishesFirst, HasLength, HasMarks, KeepsMarks, Stay, IsBlock, IsClosed, IsReady, IsReadyNode, IsWithin, LeadsOn, end_of};
+ghost use Rattle.feasibility.specs.Marking.{AreMarks, AreMarked, AreReady, AreRight, Finishes, FinishesFirst, HasMarks, KeepsMarks, Stay, IsBlock, IsClosed, IsReady, IsReadyNode, IsWithin, LeadsOn, end_of};
 
 use crate::block::Block;
 use crate::explorer::Explorer;
 use crate::mark_list::MarkList;
+use crate::mark_words::{BITS, MarkWords};
 use crate::row::Row;
 use crate::state_id::StateId;
 use std::alloc::{AllocError, Global};
 use std::marker::Model;
 
-/// For each number of nodes, from 0 on, which states can finish with exactly so many.
+/// For each number of nodes, from 0 on, which states can finish with exactly so many: a bit in the word of a state while the bits last, and
+/// a list for each further number.
 #[derive(Drop)]
 pub(crate) struct Marks {
+    words: MarkWords,
     lists: Vec<MarkList>,
 }
 
 impl Model for Marks {
-    ghost use Rattle.std.specs.Prelude.{Bool, List};
+    ghost use Rattle.std.specs.Prelude.{Bool, List, ◌++◌};
+    ghost use Rattle.feasibility.specs.Bits.{AreParts};
 
     ghost Value = { List (List Bool) };
 
-    ghost view = { λ m. m.lists.items };
+    ghost view = { λ m. m.words ++ m.lists.items };
+
+    ghost invariant = { λ m. AreParts m.words m.lists.items };
 }
 
 // Whether a state accepts.
@@ -38,12 +45,13 @@ fn accepts(explorer: &Explorer, id: usize) -> bool
 }
 
 // Whether an arc leads to a state with a mark.
-fn leads_on(row: &Row, list: &MarkList) -> bool
-    requires { IsWithin row.now (length list.now) }
-    ensures { IsTrue result ↔ LeadsOn row.now list.now }
+fn leads_on(row: &Row, marks: &Marks, rest: usize) -> bool
+    requires listed { rest < length marks.now }
+    requires within { IsWithin row.now (length (list_of marks.now rest)) }
+    ensures { IsTrue result ↔ LeadsOn row.now (list_of marks.now rest) }
 {
     for place in 0..row.len() {
-        if list.mark(row.arc(place).next.0) {
+        if marks.get(rest, row.arc(place).next.0) {
             return true;
         }
     }
@@ -54,20 +62,21 @@ fn leads_on(row: &Row, list: &MarkList) -> bool
 fn finishes(
     explorer: &Explorer,
     frees: &[Option<StateId>],
-    list: &MarkList,
+    marks: &Marks,
     block: &Block,
     from: usize,
 ) -> bool
     requires exploring { IsExploring explorer.now }
     requires closed { IsClosed explorer.now frees.now (end_of block.now) }
-    requires marks { AreMarks explorer.now block.now.rest list.now }
+    requires listed { block.now.rest < length marks.now }
+    requires right { AreMarks explorer.now block.now.rest (list_of marks.now block.now.rest) }
     requires block { IsBlock explorer.now block.now }
-    requires start { block.now.start ≤ length list.now }
+    requires start { block.now.start ≤ length (list_of marks.now block.now.rest) }
     requires from { from < end_of block.now }
     ensures { IsTrue result ↔ Finishes explorer.now block.now.rest from }
 {
     let mut id = from;
-    'walk: while id >= list.len() {
+    'walk: while id >= marks.len(block.rest) {
         if block.mark(id) {
             return true;
         }
@@ -76,12 +85,12 @@ fn finishes(
             None => return false,
         }
     }
-    list.mark(id)
+    marks.get(block.rest, id)
 }
 
 // Adds the marks of a block.
 fn settle(
-    list: &mut MarkList,
+    marks: &mut Marks,
     explorer: &Explorer,
     frees: &[Option<StateId>],
     block: &Block,
@@ -89,15 +98,17 @@ fn settle(
     requires exploring { IsExploring explorer.now }
     requires closed { IsClosed explorer.now frees.now (end_of block.now) }
     requires block { IsBlock explorer.now block.now }
-    requires marks { AreMarks explorer.now block.now.rest list.old }
-    requires start { block.now.start ≡ length list.old }
-    ensures marks { AreMarks explorer.now block.now.rest list.new }
-    ensures longer { length list.old ≤ length list.new }
-    ensures all { OnOk result (end_of block.now ≤ length list.new) }
+    requires listed { block.now.rest < length marks.old }
+    requires right { AreMarks explorer.now block.now.rest (list_of marks.old block.now.rest) }
+    requires start { block.now.start ≡ length (list_of marks.old block.now.rest) }
+    ensures alone { marks.new ≡ slice_set marks.old block.now.rest (list_of marks.new block.now.rest) }
+    ensures right { AreMarks explorer.now block.now.rest (list_of marks.new block.now.rest) }
+    ensures longer { length (list_of marks.old block.now.rest) ≤ length (list_of marks.new block.now.rest) }
+    ensures all { OnOk result (end_of block.now ≤ length (list_of marks.new block.now.rest)) }
 {
     for id in block.start..block.start + block.marks.len() {
-        let mark = finishes(explorer, frees, list, block, id);
-        list.push(mark)?;
+        let mark = finishes(explorer, frees, marks, block, id);
+        marks.push(block.rest, mark)?;
     }
     Ok(())
 }
@@ -108,7 +119,40 @@ impl Marks {
         ensures { result ≡ [] }
     {
         Marks {
+            words: MarkWords::new(alloc),
             lists: Vec::new(alloc),
+        }
+    }
+
+    // How many lists there are.
+    fn count(&self) -> usize
+        ensures { result ≡ length self.now }
+    {
+        self.words.count() + self.lists.len()
+    }
+
+    // How many states the list of `rest` marks.
+    fn len(&self, rest: usize) -> usize
+        requires { rest < length self.now }
+        ensures { result ≡ length (list_of self.now rest) }
+    {
+        if rest < BITS {
+            self.words.len(rest)
+        } else {
+            self.lists[rest - BITS].len()
+        }
+    }
+
+    // The mark of a state in the list of `rest`.
+    fn get(&self, rest: usize, id: usize) -> bool
+        requires listed { rest < length self.now }
+        requires marked { id < length (list_of self.now rest) }
+        ensures { slice_get (list_of self.now rest) id ≡ Some result }
+    {
+        if rest < BITS {
+            self.words.mark(rest, id)
+        } else {
+            self.lists[rest - BITS].mark(id)
         }
     }
 
@@ -117,7 +161,7 @@ impl Marks {
         requires { HasMarks self.now rest (id.0 + 1) }
         ensures { (list : List Bool) → slice_get self.now rest ≡ Some list → slice_get list id.0 ≡ Some result }
     {
-        self.lists[rest].mark(id.0)
+        self.get(rest, id.0)
     }
 
     // Whether a code with a node leads from a state to one that can finish with exactly `left` nodes.
@@ -128,7 +172,7 @@ impl Marks {
         requires ready { IsReadyNode explorer.now rows.now left id self.now }
         ensures { IsTrue result ↔ FinishesFirst explorer.now (left + 1) id }
     {
-        leads_on(&rows[id], &self.lists[left])
+        leads_on(&rows[id], self, left)
     }
 
     // Whether a state can finish so that the first code has a node, or none follows.
@@ -169,12 +213,30 @@ impl Marks {
         Ok(block)
     }
 
-    // How many states the list of `rest` marks.
-    fn len(&self, rest: usize) -> usize
-        requires { rest < length self.now }
-        ensures { HasLength self.now rest result }
+    // Adds an empty list.
+    fn add(&mut self, alloc: Global) -> Result<(), AllocError>
+        ensures ok { OnOk result (self.new ≡ self.old ++ [] ∷ []) }
+        ensures err { OnErr result (self.new ≡ self.old) }
     {
-        self.lists[rest].len()
+        if self.words.count() < BITS {
+            self.words.begin()
+        } else {
+            self.lists.push(MarkList::new(alloc))?;
+            Ok(())
+        }
+    }
+
+    // Adds the mark of the next state to the list of `rest`.
+    fn push(&mut self, rest: usize, mark: bool) -> Result<(), AllocError>
+        requires { rest < length self.old }
+        ensures ok { OnOk result (self.new ≡ slice_set self.old rest (list_of self.old rest ++ mark ∷ [])) }
+        ensures err { OnErr result (self.new ≡ self.old) }
+    {
+        if rest < BITS {
+            self.words.push(rest, mark)
+        } else {
+            self.lists[rest - BITS].push(mark)
+        }
     }
 
     // Begins the list of `rest`, unless it is there.
@@ -185,8 +247,8 @@ impl Marks {
         ensures right { (e : ExplorerValue) → AreRight e self.old → AreRight e self.new }
         ensures listed { OnOk result (rest < length self.new) }
     {
-        if rest == self.lists.len() {
-            self.lists.push(MarkList::new(alloc))?;
+        if rest == self.count() {
+            self.add(alloc)?;
         }
         Ok(())
     }
@@ -216,7 +278,7 @@ impl Marks {
             return Ok(());
         }
         let block = self.block(explorer, rows, rest, start, count)?;
-        settle(&mut self.lists[rest], explorer, frees, &block)
+        settle(self, explorer, frees, &block)
     }
 
     /// Adds the marks of the states that are found: of those that so many nodes reach, for each number of nodes that are left to the size. After an
@@ -240,19 +302,13 @@ impl Marks {
         Ok(())
     }
 
-    // How many lists there are.
-    fn count(&self) -> usize
-        ensures { result ≡ length self.now }
-    {
-        self.lists.len()
-    }
-
     /// Keeps the marks of the states below the number.
     pub(crate) fn cut(&mut self, count: usize)
         ensures { self.new ≡ map (take count) self.old }
     {
-        for rest in 0..self.count() {
-            self.lists[rest].truncate(count);
+        self.words.truncate(count);
+        for place in 0..self.lists.len() {
+            self.lists[place].truncate(count);
         }
     }
 }

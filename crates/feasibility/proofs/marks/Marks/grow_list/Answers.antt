@@ -1,8 +1,9 @@
-use Rattle.std.proofs.Common.{◌≡◌, ◌<◌, ◌≤◌, List, Bool, Some, length, slice_get, set, sym, ◌∙◌, ap, subst, arith}
-use Rattle.std.proofs.lemmas.Option.{slice_get_within}
+use Rattle.std.proofs.Common.{◌≡◌, ◌<◌, ◌≤◌, List, Bool, OnOk, length, set, sym, ◌∙◌, ap, subst, arith}
+use Rattle.feasibility.specs.Bits.{list_of}
 use Rattle.feasibility.specs.Marking.{AreMarks, AreRight, HasMarks, IsClosed, KeepsMarks, Stay, end_of}
 use Rattle.feasibility.proofs.Keeping.{keeps_set}
-use Rattle.feasibility.proofs.Marking.{has_set, here_is, on_ok_map, ready_stays, right_set, stay_set}
+use Rattle.feasibility.proofs.Marking.{has_set, on_ok_map, ready_stays, right_set, stay_set}
+use Rattle.feasibility.proofs.Settling.{list_is, list_right}
 use Rattle.feasibility.proofs.marks.Marks.grow_list.Goals as goal
 
 pub block-requires-clause-ready : goal.block-requires-clause-ready
@@ -11,53 +12,47 @@ block-requires-clause-ready c =
 
 pub block-requires-clause-few : goal.block-requires-clause-few
 block-requires-clause-few c =
-    let h = c.len-start.ensures in
-    let f = ((c.begin.ensures.right c.args.explorer.now c.requires.right).right c.args.rest h.0 h.1).few in
-    let l = h.2 in
-    omega (arith, f, l)
+    let e = c.len-start.ensures in
+    let f = (list_right c.args.explorer.now c.begin.new.self c.args.rest (c.begin.ensures.right c.args.explorer.now c.requires.right) c.in_ok-begin.ensures.listed).few in
+    omega (arith, f, e)
 
 pub settle-requires-clause-closed : goal.settle-requires-clause-closed
 settle-requires-clause-closed c = subst (λ n. IsClosed c.args.explorer.now c.args.frees.now n) (sym c.in_ok-block.ensures.end) c.requires.closed
 
-pub settle-requires-clause-marks : goal.settle-requires-clause-marks
-settle-requires-clause-marks c =
-    let h = c.len-start.ensures in
-    let g = subst (λ (ms : List (List Bool)). slice_get ms c.args.rest ≡ Some h.0) (sym c.self.view_is) h.1 in
-    let l = here_is c.self.inside.lists.items c.args.rest h.0 c.index_mut.result.now g c.index_mut.ensures.value in
-    let m = (c.begin.ensures.right c.args.explorer.now c.requires.right).right c.args.rest h.0 h.1 in
-    subst (λ r. AreMarks c.args.explorer.now r c.index_mut.result.now) (sym c.in_ok-block.ensures.rest)
-    (subst (λ (ys : List Bool). AreMarks c.args.explorer.now c.args.rest ys) (sym l) m)
+pub settle-requires-clause-right : goal.settle-requires-clause-right
+settle-requires-clause-right c =
+    subst (λ r. AreMarks c.args.explorer.now r (list_of c.begin.new.self r)) (sym c.in_ok-block.ensures.rest)
+    (list_right c.args.explorer.now c.begin.new.self c.args.rest (c.begin.ensures.right c.args.explorer.now c.requires.right) c.in_ok-begin.ensures.listed)
 
 pub settle-requires-clause-start : goal.settle-requires-clause-start
-settle-requires-clause-start c =
-    let h = c.len-start.ensures in
-    let g = subst (λ (ms : List (List Bool)). slice_get ms c.args.rest ≡ Some h.0) (sym c.self.view_is) h.1 in
-    let l = here_is c.self.inside.lists.items c.args.rest h.0 c.index_mut.result.now g c.index_mut.ensures.value in
-    c.in_ok-block.ensures.start ∙ sym h.2 ∙ ap (λ (ys : List Bool). length ys) (sym l)
+settle-requires-clause-start c = c.in_ok-block.ensures.start ∙ c.len-start.ensures ∙ ap (λ r. length (list_of c.begin.new.self r)) (sym c.in_ok-block.ensures.rest)
 
 pub returns-clause-right : goal.returns-clause-right
 returns-clause-right c =
-    let r = c.begin.ensures.right c.args.explorer.now c.requires.right in
-    right_set c.args.explorer.now c.self.inside.lists.items c.args.rest c.settle.new.list
-    (subst (λ (ms : List (List Bool)). AreRight c.args.explorer.now ms) (sym c.self.view_is) r)
-    (subst (λ n. AreMarks c.args.explorer.now n c.settle.new.list) c.in_ok-block.ensures.rest c.settle.ensures.marks)
+    let w = subst (λ r. c.settle.new.marks ≡ set c.begin.new.self r (list_of c.settle.new.marks r)) c.in_ok-block.ensures.rest c.settle.ensures.alone in
+    subst (λ (ms : List (List Bool)). AreRight c.args.explorer.now ms) (sym w)
+    (right_set c.args.explorer.now c.begin.new.self c.args.rest (list_of c.settle.new.marks c.args.rest) (c.begin.ensures.right c.args.explorer.now c.requires.right)
+    (subst (λ r. AreMarks c.args.explorer.now r (list_of c.settle.new.marks r)) c.in_ok-block.ensures.rest c.settle.ensures.right))
 
 pub returns-clause-stay : goal.returns-clause-stay
 returns-clause-stay c =
-    stay_set c.args.self.now c.self.inside.lists.items c.args.rest c.settle.new.list
-    (subst (λ (ms : List (List Bool)). Stay c.args.rest c.args.self.now ms) (sym c.self.view_is) c.begin.ensures.stay)
+    let w = subst (λ r. c.settle.new.marks ≡ set c.begin.new.self r (list_of c.settle.new.marks r)) c.in_ok-block.ensures.rest c.settle.ensures.alone in
+    subst (λ (ms : List (List Bool)). Stay c.args.rest c.args.self.now ms) (sym w)
+    (stay_set c.args.self.now c.begin.new.self c.args.rest (list_of c.settle.new.marks c.args.rest) c.begin.ensures.stay)
 
 pub returns-clause-kept : goal.returns-clause-kept
 returns-clause-kept c =
-    keeps_set c.args.self.now c.self.inside.lists.items c.args.rest c.settle.new.list
-    (subst (λ (ms : List (List Bool)). KeepsMarks c.args.self.now ms) (sym c.self.view_is) c.begin.ensures.kept)
-    (λ other h. let e = here_is c.self.inside.lists.items c.args.rest other c.index_mut.result.now h c.index_mut.ensures.value in
-    subst (λ (ys : List Bool). length ys ≤ length c.settle.new.list) e c.settle.ensures.longer)
+    let w = subst (λ r. c.settle.new.marks ≡ set c.begin.new.self r (list_of c.settle.new.marks r)) c.in_ok-block.ensures.rest c.settle.ensures.alone in
+    let l = subst (λ r. length (list_of c.begin.new.self r) ≤ length (list_of c.settle.new.marks r)) c.in_ok-block.ensures.rest c.settle.ensures.longer in
+    subst (λ (ms : List (List Bool)). KeepsMarks c.args.self.now ms) (sym w)
+    (keeps_set c.args.self.now c.begin.new.self c.args.rest (list_of c.settle.new.marks c.args.rest) c.begin.ensures.kept
+    (λ other h. subst (λ (ys : List Bool). length ys ≤ length (list_of c.settle.new.marks c.args.rest)) (list_is c.begin.new.self c.args.rest other h) l))
 
 pub returns-clause-all : goal.returns-clause-all
 returns-clause-all c =
-    let h = c.len-start.ensures in
-    let g = subst (λ (ms : List (List Bool)). slice_get ms c.args.rest ≡ Some h.0) (sym c.self.view_is) h.1 in
-    let w = slice_get_within c.self.inside.lists.items c.args.rest h.0 g in
-    on_ok_map c.settle.result (end_of c.in_ok-block.block ≤ length c.settle.new.list) (HasMarks (set c.self.inside.lists.items c.args.rest c.settle.new.list) c.args.rest c.args.count)
-    (λ l. has_set c.self.inside.lists.items c.args.rest c.args.count c.settle.new.list w (subst (λ n. n ≤ length c.settle.new.list) c.in_ok-block.ensures.end l)) c.settle.ensures.all
+    let w = subst (λ r. c.settle.new.marks ≡ set c.begin.new.self r (list_of c.settle.new.marks r)) c.in_ok-block.ensures.rest c.settle.ensures.alone in
+    let a = subst (λ r. OnOk c.settle.result (end_of c.in_ok-block.block ≤ length (list_of c.settle.new.marks r))) c.in_ok-block.ensures.rest c.settle.ensures.all in
+    on_ok_map c.settle.result (end_of c.in_ok-block.block ≤ length (list_of c.settle.new.marks c.args.rest)) (HasMarks c.settle.new.marks c.args.rest c.args.count)
+    (λ l. subst (λ (ms : List (List Bool)). HasMarks ms c.args.rest c.args.count) (sym w)
+    (has_set c.begin.new.self c.args.rest c.args.count (list_of c.settle.new.marks c.args.rest) c.in_ok-begin.ensures.listed
+    (subst (λ n. n ≤ length (list_of c.settle.new.marks c.args.rest)) c.in_ok-block.ensures.end l))) a
