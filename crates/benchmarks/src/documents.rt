@@ -1,8 +1,8 @@
 // Documents that are written by their codes, and beside them the same bytes copied.
 ghost use Rattle.std.specs.Prelude.{None};
-ghost use Rattle.event_lines.specs.Coded.{AreInRange, lists_of};
+ghost use Rattle.event_lines.specs.Spelled.{AreSpelled};
 
-use event_lines::{LineBuffer, are_in_range, write_codes};
+use event_lines::{LineBuffer, Spellings, are_in_range, write_codes};
 use name_classes::{Name, NameClass};
 use name_universe::Universe;
 use outside::{Failed, Sink};
@@ -98,12 +98,12 @@ fn universe(alloc: Global) -> Result<Option<Universe>, AllocError> {
 }
 
 /// Writes the codes again and again. False where the sink failed.
-fn write(codes: &[Code], universe: &Universe, atoms: &Atoms, sink: &mut Counter) -> bool
-    requires { AreInRange (lists_of universe.now atoms.now) codes.now }
+fn write(codes: &[Code], spellings: &Spellings, sink: &mut Counter) -> bool
+    requires { AreSpelled spellings.now codes.now }
 {
     let mut buffer = LineBuffer::new();
     for _ in 0..DOCUMENTS {
-        if write_codes(codes, universe, atoms, &mut buffer, sink).is_err() {
+        if write_codes(codes, spellings, &mut buffer, sink).is_err() {
             return false;
         }
     }
@@ -131,10 +131,11 @@ fn write_document(alloc: Global, codes: &[Code], sink: &mut Counter) -> Result<b
         return Ok(false);
     };
     let atoms = Atoms::of(alloc, &Literals::new(alloc), &TextList::new(alloc))?;
+    let spellings = Spellings::of(alloc, &universe, &atoms)?;
     if !are_in_range(codes, &universe, &atoms) {
         return Ok(false);
     }
-    Ok(write(codes, &universe, &atoms, sink))
+    Ok(write(codes, &spellings, sink))
 }
 
 /// Times a benchmark of the writer of documents. False where it isn't one.

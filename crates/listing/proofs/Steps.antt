@@ -15,12 +15,14 @@ use Rattle.rng_model.specs.Lines.{skeleton_text}
 use Rattle.rng_model.specs.Codes.{Code, AreCodes, IsInRange}
 use Rattle.table_laws.proofs.Counts.{more_grows}
 use Rattle.table_laws.proofs.Rooms.{listed_length}
-use Rattle.feasibility.specs.Tables.{Table, IsTable, lists, lists_of}
+use Rattle.feasibility.specs.Tables.{Table, IsTable, Keeps, lists, lists_of}
 use Rattle.text_atoms.specs.declared.origin.Origin.{Origin}
 use Rattle.name_universe.specs.Tables.{NameTables}
 use Rattle.skeleton.specs.declared.code.Code as coded
 use Rattle.skeleton.specs.Views.{code_of}
 use Rattle.event_lines.specs.Coded.{AreInRange, events_text}
+use Rattle.event_lines.specs.Spelled.{AreSpellings}
+use Rattle.event_lines.specs.declared.spellings.Spellings.{Spellings}
 use Rattle.lister.specs.Walks.{Walk, Stage, IsStep, GoesToNext, IsWalkOf, IsAt, IsAtOne}
 use Rattle.outside.specs.Devices.{IsFrontOf, AppendsFront}
 use Rattle.listing_laws.specs.Pending.{Asked, IsOver, AreFirst, Ending, Ends}
@@ -280,11 +282,9 @@ pub text_is : (s : Skeleton) → events_text (events s) ≡ skeleton_text s
 unfolding skeleton_text
 text_is s = refl
 
--- the codes are those of the document that comes next
-pub codes_are : (t : Table) (u : NameTables) (atoms : List (Text × Origin)) → u ≡ t.universe → atoms ≡ t.atoms →
-    (n : ℕ) (after : Option Skeleton) (page : Option ℕ) (m : ℕ) (left : Option ℕ) (taken now : Option (List ℕ)) (cs : List Code)
-    (d : Coming (asked_of t n after) page m left taken now cs) → AreCodes (lists_of u atoms) (events d.document) cs
-codes_are t u atoms e f n after page m left taken now cs d = subst (λ l. AreCodes l (events d.document) cs) (sym (same_lists t u atoms e f)) d.coded
+-- the spellings of the lists are those of a table's that has grown
+pub spelled_on : (t new : Table) (s : Spellings) → Keeps t new → AreSpellings (lists t) s → AreSpellings (lists new) s
+spelled_on t new s kept are = subst (λ l. AreSpellings l s) (sym (same_lists t new.universe new.atoms kept.universe kept.atoms)) are
 
 -- the walk is ready for the next document of its size
 pub ready_again : (t : Table) (n : ℕ) (after : Option Skeleton) (w v : Walk) (page left rest : Option ℕ) (taken old new : Option (List ℕ)) → v.size ≡ w.size →

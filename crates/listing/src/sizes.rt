@@ -2,6 +2,7 @@
 ghost use Rattle.std.specs.Prelude.{◌≡◌, ℕ, ◌+◌, ◌*◌, ◌≤◌, List, Option, option_map, IfSome, IfOk, OnOk, is_some};
 ghost use Rattle.rng_model.specs.Hedges.{size as size_of, Skeleton as SkeletonValue};
 ghost use Rattle.rng_model.specs.Listing.{IsListed};
+ghost use Rattle.event_lines.specs.Spelled.{AreSpellings};
 ghost use Rattle.feasibility.specs.Tables.{Keeps, group_total, lists};
 ghost use Rattle.listing_laws.specs.Fronts.{IsBehind};
 ghost use Rattle.listing.specs.Progress.{asked_of};
@@ -12,12 +13,12 @@ ghost use Rattle.listing.specs.Costs.{IsWrittenFor, HasCost, CostsTo, CostsFirst
 
 use crate::listing_end::ListingEnd;
 use crate::writing::write_size;
-use event_lines::LineBuffer;
+use event_lines::{LineBuffer, Spellings};
 use feasibility::{Table, TableFault};
 use lister::Lister;
 use outside::{Sink, Steps};
 use skeleton::Skeleton;
-use std::alloc::Global;
+use std::alloc::{AllocError, Global};
 use std::sync::ledger::Ledger;
 
 /// Grows the table to a size, and writes the documents of that size.
@@ -26,6 +27,7 @@ fn list_size<O: Sink, L: Ledger>(
     table: &mut Table,
     m: usize,
     left: &mut Option<u64>,
+    spellings: &Spellings,
     buffer: &mut LineBuffer,
     out: &mut O,
     steps: &mut Steps<L>,
@@ -34,6 +36,7 @@ fn list_size<O: Sink, L: Ledger>(
     requires most { m ≤ lister.old.room }
     requires small { lister.old.room ≤ 64 }
     requires left { IfSome left.old (λ k. 1 ≤ k) }
+    requires spelled { AreSpellings (lists table.old) spellings.now }
     ensures goes_on { (n : ℕ) (after : Option SkeletonValue) (page : Option ℕ) (taken : Option (List ℕ)) → m ≤ n →
         IsAtSize table.old n after m page left.old taken (O.taken out.old) →
         GoesOn table.old n after m page left.new taken (O.taken out.new) result }
@@ -58,7 +61,7 @@ fn list_size<O: Sink, L: Ledger>(
     }
     table.holds();
     lister.first_of_size(m);
-    write_size(lister, table, left, buffer, out, steps)
+    write_size(lister, table, left, spellings, buffer, out, steps)
 }
 
 /// Writes the documents of each size from `first` on to `size`.
@@ -68,6 +71,7 @@ fn list_sizes<O: Sink, L: Ledger>(
     first: usize,
     size: usize,
     left: &mut Option<u64>,
+    spellings: &Spellings,
     out: &mut O,
     steps: &mut Steps<L>,
 ) -> ListingEnd
@@ -76,6 +80,7 @@ fn list_sizes<O: Sink, L: Ledger>(
     requires small { size ≤ 64 }
     requires room { lister.old.room ≡ size }
     requires left { IfSome left.old (λ k. 1 ≤ k) }
+    requires spelled { AreSpellings (lists table.old) spellings.now }
     ensures ends { (after : Option SkeletonValue) (page : Option ℕ) (taken : Option (List ℕ)) →
         IsAtSize table.old size after first page left.old taken (O.taken out.old) →
         EndsAs (asked_of table.old size after) page taken (O.taken out.new) result }
@@ -91,7 +96,7 @@ fn list_sizes<O: Sink, L: Ledger>(
     let mut buffer = LineBuffer::new();
     let mut m = first;
     while m <= size {
-        if let Err(end) = list_size(lister, table, m, left, &mut buffer, out, steps) {
+        if let Err(end) = list_size(lister, table, m, left, spellings, &mut buffer, out, steps) {
             return end;
         }
         m += 1;
@@ -106,10 +111,12 @@ fn resume<O: Sink, L: Ledger>(
     table: &Table,
     after: Option<&Skeleton>,
     left: &mut Option<u64>,
+    spellings: &Spellings,
     out: &mut O,
     steps: &mut Steps<L>,
 ) -> Result<usize, ListingEnd>
     requires left { IfSome left.old (λ k. 1 ≤ k) }
+    requires spelled { AreSpellings (lists table.now) spellings.now }
     requires small { lister.old.room ≤ 64 }
     requires listed { IfSome after (λ c. IsListed table.now.schema (lists table.now) lister.old.room c.now) }
     requires grown { IfSome after (λ c. size_of c.now ≤ table.now.grown) }
@@ -131,14 +138,27 @@ fn resume<O: Sink, L: Ledger>(
     table.holds();
     let mut buffer = LineBuffer::new();
     lister.resume_at(table, cursor, steps);
-    match write_size(lister, table, left, &mut buffer, out, steps) {
+    match write_size(lister, table, left, spellings, &mut buffer, out, steps) {
         Ok(()) => Ok(cursor.size() + 1),
         Err(end) => Err(end),
     }
 }
 
+/// What a listing keeps from its beginning on: the walk, and the table's names and texts spelled.
+fn begin(alloc: Global, table: &Table, size: usize) -> Result<(Lister, Spellings), AllocError>
+    requires some { 1 ≤ size }
+    requires most { size ≤ 64 }
+    ensures room { IfOk result (λ begun. begun.0.room ≡ size) }
+    ensures spelled { IfOk result (λ begun. AreSpellings (lists table.now) begun.1) }
+{
+    let lister = Lister::begin(alloc, size)?;
+    let spellings = Spellings::of(alloc, table.universe(), table.atoms())?;
+    Ok((lister, spellings))
+}
+
 /// Writes the documents of the table's schema with at most `size` nodes, 1 to 64, in order: from the first on, or those that follow the
-/// cursor; at most `page` of them, if there is a page limit, which is at least 1. Memory is asked for between two sizes alone. The steps are
+/// cursor; at most `page` of them, if there is a page limit, which is at least 1. Memory is asked for where it begins, for the walk and the
+/// spelled names and texts, and then between two sizes alone. The steps are
 /// those of growing the table, three for each node that there may be, and at most 12 for each such node and each event over the lists, for
 /// each document that is written whole and each size.
 pub fn write_listing<O: Sink, L: Ledger>(
@@ -164,12 +184,21 @@ pub fn write_listing<O: Sink, L: Ledger>(
         steps.new (asked_of table.old size (option_map (λ c. c.now) after.entry)) page }
 {
     table.holds();
-    let Ok(mut lister) = Lister::begin(alloc, size) else {
+    let Ok((mut lister, spellings)) = begin(alloc, table, size) else {
         return ListingEnd::OutOfMemory;
     };
     let mut left = page;
-    match resume(&mut lister, table, after, &mut left, out, steps) {
-        Ok(first) => list_sizes(&mut lister, table, first, size, &mut left, out, steps),
+    match resume(&mut lister, table, after, &mut left, &spellings, out, steps) {
+        Ok(first) => list_sizes(
+            &mut lister,
+            table,
+            first,
+            size,
+            &mut left,
+            &spellings,
+            out,
+            steps,
+        ),
         Err(end) => end,
     }
 }

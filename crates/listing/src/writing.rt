@@ -1,6 +1,7 @@
 // The loops that write a listing.
 ghost use Rattle.std.specs.Prelude.{◌≡◌, ℕ, ◌+◌, ◌≤◌, ◌<◌, List, Option, IfSome, IsTrue, OnOk, Ok, true, false, is_some};
 ghost use Rattle.rng_model.specs.Hedges.{Skeleton as SkeletonValue};
+ghost use Rattle.event_lines.specs.Spelled.{AreSpellings};
 ghost use Rattle.feasibility.specs.Tables.{lists};
 ghost use Rattle.lister.specs.Walks.{IsWalkOf, IsSet};
 ghost use Rattle.listing.specs.Progress.{HasLeft, walk_left};
@@ -10,7 +11,7 @@ ghost use Rattle.listing.specs.Summing.{each_of};
 ghost use Rattle.listing.specs.Costs.{IsWrittenFor, CostsOn, CostsTo};
 
 use crate::listing_end::ListingEnd;
-use event_lines::{LineBuffer, write_codes};
+use event_lines::{LineBuffer, Spellings, write_codes};
 use feasibility::Table;
 use lister::Lister;
 use outside::{Sink, Steps};
@@ -37,6 +38,7 @@ fn write_next<O: Sink, L: Ledger>(
     lister: &mut Lister,
     table: &Table,
     left: &mut Option<u64>,
+    spellings: &Spellings,
     buffer: &mut LineBuffer,
     out: &mut O,
     steps: &mut Steps<L>,
@@ -45,6 +47,7 @@ fn write_next<O: Sink, L: Ledger>(
     requires grown { lister.old.size ≤ table.now.grown }
     requires own { IsWalkOf table.now lister.old.size lister.old.stage }
     requires some { IfSome left.old (λ k. 1 ≤ k) }
+    requires spelled { AreSpellings (lists table.now) spellings.now }
     ensures advances { (n : ℕ) (after : Option SkeletonValue) (page : Option ℕ) (taken : Option (List ℕ)) →
         IsReadyFor table.now n after lister.old page left.old taken (O.taken out.old) →
         Advances table.now n after lister.new page left.new taken (O.taken out.new) result }
@@ -63,7 +66,7 @@ fn write_next<O: Sink, L: Ledger>(
     if !lister.next(table, steps) {
         return Ok(false);
     }
-    if write_codes(lister.codes(), table.universe(), table.atoms(), buffer, out).is_err() {
+    if write_codes(lister.codes(), spellings, buffer, out).is_err() {
         return Err(ListingEnd::WriteFault);
     }
     if fills(left) {
@@ -77,6 +80,7 @@ pub(crate) fn write_size<O: Sink, L: Ledger>(
     lister: &mut Lister,
     table: &Table,
     left: &mut Option<u64>,
+    spellings: &Spellings,
     buffer: &mut LineBuffer,
     out: &mut O,
     steps: &mut Steps<L>,
@@ -85,6 +89,7 @@ pub(crate) fn write_size<O: Sink, L: Ledger>(
     requires grown { lister.old.size ≤ table.now.grown }
     requires own { IsWalkOf table.now lister.old.size lister.old.stage }
     requires some { IfSome left.old (λ k. 1 ≤ k) }
+    requires spelled { AreSpellings (lists table.now) spellings.now }
     ensures completes { (n : ℕ) (after : Option SkeletonValue) (page : Option ℕ) (taken : Option (List ℕ)) →
         IsReadyFor table.now n after lister.old page left.old taken (O.taken out.old) →
         Completes table.now n after lister.old page left.new taken (O.taken out.new) result }
@@ -96,6 +101,6 @@ pub(crate) fn write_size<O: Sink, L: Ledger>(
     ensures told { is_some (O.taken out.new) ≡ is_some (O.taken out.old) }
     ensures cause { HasCauseIn (O.faults out.old) (O.faults out.new) result }
 {
-    while write_next(lister, table, left, buffer, out, steps)? {}
+    while write_next(lister, table, left, spellings, buffer, out, steps)? {}
     Ok(())
 }

@@ -6,10 +6,14 @@ use Rattle.listing.specs.Doing.{IsDoneBelow}
 use Rattle.listing.specs.Summing.{each_of}
 use Rattle.listing.specs.Costs.{IsWrittenFor, HasCost}
 use Rattle.listing.proofs.StateLines.{spent_small}
+use Rattle.listing.proofs.Steps.{spelled_on}
 use Rattle.listing.proofs.Sums.{same_each, same_most, one_size, few_sizes}
 use Rattle.listing.proofs.Costs.{below_later, cost_below, cost_later, behind_more}
 use Rattle.listing.proofs.FromSizeToSize.{keeps_itself, keeps_on, same_asked, at_grown, at_smaller, whole}
 use Rattle.listing.proofs.sizes.list_sizes.Goals as goal
+
+pub list_size-requires-clause-spelled : goal.list_size-requires-clause-spelled
+list_size-requires-clause-spelled g c = spelled_on c.args.table.now c.loop-m.table c.args.spellings.now c.loop-m.invariant.kept c.requires.spelled
 
 pub loop-m-init : goal.loop-m-init
 loop-m-init g c = record {

@@ -1,16 +1,16 @@
-use Rattle.std.proofs.Common.{◌+◌, sym, subst, ◌∙◌, length, arith}
+use Rattle.std.proofs.Common.{◌+◌, refl, sym, subst, ◌∙◌, length, arith}
 use Rattle.std.specs.Prelude.{map}
 use Rattle.skeleton.specs.Views.{code_of}
 use Rattle.std.specs.Io.KnownBytes.{Appends}
 use Rattle.outside.specs.Devices.{AppendsFront}
 use Rattle.rng_model.specs.Events.{events}
-use Rattle.rng_model.specs.Codes.{AreCodes}
+use Rattle.feasibility.specs.Tables.{lists}
 use Rattle.listing.specs.Progress.{asked_of, IsWrittenBelow}
 use Rattle.listing.specs.Costs.{IsWrittenFor}
 use Rattle.listing.specs.Doing.{IsDoneBelow}
 use Rattle.listing.proofs.Sums as sums
 use Rattle.listing.proofs.Costs.{below_later, cost_cut, cost_full, written_more}
-use Rattle.listing.proofs.Steps.{same_lists, size_written, not_true, codes_in_range, coming, begun, ended, written, failed, went, text_is, codes_are, ready_again, fewer_left}
+use Rattle.listing.proofs.Steps.{size_written, not_true, codes_in_range, coming, begun, ended, written, failed, went, text_is, ready_again, fewer_left}
 use Rattle.listing.proofs.writing.write_next.Goals as goal
 
 pub returns-then-not-next-clause-advances : goal.returns-then-not-next-clause-advances
@@ -24,8 +24,9 @@ returns-then-not-next-clause-advances g c = λ n after page taken h.
 
 pub write_codes-requires : goal.write_codes-requires
 write_codes-requires g c =
-    codes_in_range c.args.table.now c.universe.result.now c.atoms.result.now c.universe.ensures c.atoms.ensures c.next.new.self.size c.next.new.self.stage
-    c.codes.result.now c.next.ensures.own c.codes.ensures
+    let t = c.args.table.now in
+    let below = codes_in_range t t.universe t.atoms refl refl c.next.new.self.size c.next.new.self.stage c.codes.result.now c.next.ensures.own c.codes.ensures in
+    record { lists = lists t; spelled = c.requires.spelled; in_range = below }
 
 pub returns-then-is_err-clause-advances : goal.returns-then-is_err-clause-advances
 returns-then-is_err-clause-advances g c = λ n after page taken h.
@@ -36,8 +37,7 @@ returns-then-is_err-clause-advances g c = λ n after page taken h.
     let codes = map code_of c.codes.result.now in
     let left = c.args.left.now in
     let d = coming t n after w page left taken old c.next.new.self.stage codes h c.next.ensures.documents c.codes.ensures in
-    let are = codes_are t c.universe.result.now c.atoms.result.now c.universe.ensures c.atoms.ensures n after page w.size left taken old codes d in
-    let front = failed c.write_codes.result (sym c.is_err.ensures.value ∙ c.if-is_err.true) (c.write_codes.ensures.err (events d.document) are) in
+    let front = failed c.write_codes.result (sym c.is_err.ensures.value ∙ c.if-is_err.true) (c.write_codes.ensures.err (lists t) (events d.document) c.requires.spelled d.coded) in
     begun (asked_of t n after) page w.size left taken old codes d h.fits new (subst (AppendsFront old new) (text_is d.document) front)
 
 pub returns-then-fills-clause-advances : goal.returns-then-fills-clause-advances
@@ -49,8 +49,7 @@ returns-then-fills-clause-advances g c = λ n after page taken h.
     let codes = map code_of c.codes.result.now in
     let left = c.args.left.now in
     let d = coming t n after w page left taken old c.next.new.self.stage codes h c.next.ensures.documents c.codes.ensures in
-    let are = codes_are t c.universe.result.now c.atoms.result.now c.universe.ensures c.atoms.ensures n after page w.size left taken old codes d in
-    let all = went c.write_codes.result (sym c.is_err.ensures.value ∙ c.if-is_err.false) (c.write_codes.ensures.ok (events d.document) are) in
+    let all = went c.write_codes.result (sym c.is_err.ensures.value ∙ c.if-is_err.false) (c.write_codes.ensures.ok (lists t) (events d.document) c.requires.spelled d.coded) in
     ended (asked_of t n after) page w.size left taken old codes d h.fits new (subst (Appends old new) (text_is d.document) all)
     (c.fills.ensures.full page (length d.front) d.room c.if-fills.true)
 
@@ -65,8 +64,7 @@ returns-clause-advances g c = λ n after page taken h.
     let left = c.args.left.now in
     let rest = c.fills.new.left in
     let d = coming t n after w page left taken old v.stage codes h c.next.ensures.documents c.codes.ensures in
-    let are = codes_are t c.universe.result.now c.atoms.result.now c.universe.ensures c.atoms.ensures n after page w.size left taken old codes d in
-    let all = went c.write_codes.result (sym c.is_err.ensures.value ∙ c.if-is_err.false) (c.write_codes.ensures.ok (events d.document) are) in
+    let all = went c.write_codes.result (sym c.is_err.ensures.value ∙ c.if-is_err.false) (c.write_codes.ensures.ok (lists t) (events d.document) c.requires.spelled d.coded) in
     ready_again t n after w v page left rest taken old new c.next.ensures.same.1 h
     (written (asked_of t n after) page w.size left taken old codes d new rest v.stage c.codes.ensures (subst (Appends old new) (text_is d.document) all)
     (c.fills.ensures.more page (length d.front) d.room c.if-fills.false))
@@ -106,8 +104,7 @@ returns-then-is_err-clause-costs g c = λ n x y each after page taken l h.
     let new = g.O.Sink.taken c.write_codes.new.sink in
     let codes = map code_of c.codes.result.now in
     let d = sums.next_one t n after (IsWrittenFor taken old x y each s) page w left v.stage codes h c.next.ensures.documents c.codes.ensures in
-    let are = subst (λ k. AreCodes k (events d.document) codes) (sym (same_lists t c.universe.result.now c.atoms.result.now c.universe.ensures c.atoms.ensures)) d.coded in
-    let front = failed c.write_codes.result (sym c.is_err.ensures.value ∙ c.if-is_err.true) (c.write_codes.ensures.err (events d.document) are) in
+    let front = failed c.write_codes.result (sym c.is_err.ensures.value ∙ c.if-is_err.true) (c.write_codes.ensures.err (lists t) (events d.document) c.requires.spelled d.coded) in
     cost_cut a page taken old x y each s w.size left codes d new s1 (omega (arith, ticks, l)) h.fits (subst (AppendsFront old new) (text_is d.document) front)
 
 pub returns-then-fills-clause-costs : goal.returns-then-fills-clause-costs
@@ -124,8 +121,7 @@ returns-then-fills-clause-costs g c = λ n x y each after page taken l h.
     let new = g.O.Sink.taken c.write_codes.new.sink in
     let codes = map code_of c.codes.result.now in
     let d = sums.next_one t n after (IsWrittenFor taken old x y each s) page w left v.stage codes h c.next.ensures.documents c.codes.ensures in
-    let are = subst (λ k. AreCodes k (events d.document) codes) (sym (same_lists t c.universe.result.now c.atoms.result.now c.universe.ensures c.atoms.ensures)) d.coded in
-    let all = went c.write_codes.result (sym c.is_err.ensures.value ∙ c.if-is_err.false) (c.write_codes.ensures.ok (events d.document) are) in
+    let all = went c.write_codes.result (sym c.is_err.ensures.value ∙ c.if-is_err.false) (c.write_codes.ensures.ok (lists t) (events d.document) c.requires.spelled d.coded) in
     cost_full a page taken old x y each s w.size left codes d new s1 (omega (arith, ticks, l)) h.fits (subst (Appends old new) (text_is d.document) all)
 
 pub returns-clause-costs : goal.returns-clause-costs
@@ -142,11 +138,10 @@ returns-clause-costs g c = λ n x y each after page taken l h.
     let new = g.O.Sink.taken c.write_codes.new.sink in
     let codes = map code_of c.codes.result.now in
     let d = sums.next_one t n after (IsWrittenFor taken old x y each s) page w left v.stage codes h c.next.ensures.documents c.codes.ensures in
-    let are = subst (λ k. AreCodes k (events d.document) codes) (sym (same_lists t c.universe.result.now c.atoms.result.now c.universe.ensures c.atoms.ensures)) d.coded in
     let rest = c.fills.new.left in
     let before = IsWrittenFor taken old x y each s in
     let now = IsWrittenFor taken new x y each s1 in
-    let all = went c.write_codes.result (sym c.is_err.ensures.value ∙ c.if-is_err.false) (c.write_codes.ensures.ok (events d.document) are) in
+    let all = went c.write_codes.result (sym c.is_err.ensures.value ∙ c.if-is_err.false) (c.write_codes.ensures.ok (lists t) (events d.document) c.requires.spelled d.coded) in
     let more = written_more a page taken old x y each s w.size left codes d new s1 (omega (arith, ticks, l)) (subst (Appends old new) (text_is d.document) all) in
     sums.ready_again t n after before now page w v left rest c.next.ensures.same.1 h
     (sums.done_with a before page w.size left codes d now rest v.stage c.codes.ensures more (c.fills.ensures.more page (length d.front) d.room c.if-fills.false))
