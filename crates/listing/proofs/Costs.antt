@@ -1,10 +1,12 @@
 -- What a listing writes, and how many steps it counts for it.
 use Rattle.std.proofs.Common.{◌≡◌, ℕ, ◌+◌, ◌*◌, ◌≤◌, List, [], ◌∷◌, ◌++◌, length, Option, Some, None, refl, sym, ◌∙◌, subst, arith, append_assoc, append-nil}
 use Rattle.std.proofs.lemmas.List.{length-append}
-use Rattle.std.specs.Prelude.{Result, Ok, Err}
+use Rattle.std.proofs.lemmas.List.Elements.{Contains-append_left}
+use Rattle.std.specs.Prelude.{Result, Ok, Err, Contains}
 use Rattle.std.specs.Io.KnownBytes.{Appends}
 use Rattle.rng_model.specs.Hedges.{Skeleton}
 use Rattle.rng_model.specs.Lines.{skeleton_text}
+use Rattle.rng_model.specs.Listing.{IsListed}
 use Rattle.rng_model.specs.Codes.{Code}
 use Rattle.outside.specs.Devices.{AppendsFront}
 use Rattle.feasibility.specs.Tables.{Table, Keeps}
@@ -36,6 +38,7 @@ pub cost_later : (a : Asked) (page : Option ℕ) (taken now : Option (List ℕ))
     HasCost taken now x y each s a page → HasCost taken now x1 y1 each s1 a page
 cost_later a page taken now x y each s x1 y1 s1 l h = record {
   front = h.front;
+  listed = h.listed;
   begins = h.begins;
   part = h.part;
   bytes = h.bytes;
@@ -47,6 +50,7 @@ pub cost_below : (a : Asked) (page : Option ℕ) (taken now : Option (List ℕ))
     IsDoneBelow a (IsWrittenFor taken now x y each s) page m left → HasCost taken now x y each s a page
 cost_below a page taken now x y each s m left h = record {
   front = h.front;
+  listed = λ d there. ((h.below.each d).0 there).0.listed;
   begins = λ e queue ends. begins a page h.front e queue (fronts.below_first a m h.front h.below h.no_stop) (fits page left (length h.front) h.room) ends;
   part = [];
   bytes = subst (Appends taken now) (sym (append-nil (texts_of h.front))) h.done.bytes;
@@ -58,6 +62,9 @@ module _ (a : Asked) (page : Option ℕ) (taken old : Option (List ℕ)) (x y ea
     (c : Next a (IsWrittenFor taken old x y each s) page m left codes) (new : Option (List ℕ)) (s1 : ℕ) (later : s1 ≤ s + each) where
   one_more : length (c.front ++ (c.document ∷ [])) ≡ length c.front + 1
   one_more = length-append c.front (c.document ∷ [])
+
+  listed_one : (d : Skeleton) → Contains (c.front ++ (c.document ∷ [])) d → IsListed a.schema a.lists a.size d
+  listed_one d there = ((c.to.each d).0 there).0.listed
 
   begins_one : (IsOver a m → ⊥) → (e : Ending) (queue : List Skeleton) → Ends a page e queue → BeginsWith (c.front ++ (c.document ∷ [])) queue
   begins_one few e queue ends =
@@ -77,6 +84,7 @@ module _ (a : Asked) (page : Option ℕ) (taken old : Option (List ℕ)) (x y ea
       let w = written_more h in
       record {
         front = c.front ++ (c.document ∷ []);
+        listed = listed_one;
         begins = begins_one few;
         part = [];
         bytes = subst (Appends taken new) (sym (append-nil (texts_of (c.front ++ (c.document ∷ []))))) w.bytes;
@@ -92,15 +100,19 @@ module _ (a : Asked) (page : Option ℕ) (taken old : Option (List ℕ)) (x y ea
           let b = begins_one few e queue ends in
           record { rest = c.document ∷ b.rest; is = b.is ∙ append_assoc c.front (c.document ∷ []) b.rest }
 
+      listed_front : (d : Skeleton) → Contains c.front d → IsListed a.schema a.lists a.size d
+      listed_front d there = listed_one d (Contains-append_left c.front (c.document ∷ []) d there)
+
       few_steps : s1 + x ≤ y + each + each * length c.front
       few_steps = let ticks = c.done.ticks in omega (arith, ticks, later)
 
       go : (taken old new : Option (List ℕ)) → Appends taken old (texts_of c.front) → AppendsFront old new (skeleton_text c.document) → HasCost taken new x (y + each) each s1 a page
-      go None old new grew part = record { front = c.front; begins = begins_front; part = []; bytes = tt; ticks = few_steps }
+      go None old new grew part = record { front = c.front; listed = listed_front; begins = begins_front; part = []; bytes = tt; ticks = few_steps }
       go (Some p) None new grew part = absurd grew
       go (Some p) (Some q) None grew part = absurd part
       go (Some p) (Some q) (Some r) grew (bytes, is, more) = record {
         front = c.front;
+        listed = listed_front;
         begins = begins_front;
         part = bytes;
         bytes = appends_both (Some p) (Some q) (Some r) (texts_of c.front) bytes grew more;
@@ -143,10 +155,14 @@ first_for t n page left taken now x y each s l h =
     let w = (at_first t n page left taken now h).written in
     record { front = w.front; room = w.room; done = record { bytes = w.bytes; ticks = omega (arith, l) }; below = w.below; no_stop = w.no_stop }
 
+nothing_in : (d : Skeleton) → Contains [] d → ⊥
+nothing_in d (k, l, e) = omega (arith, l)
+
 -- where nothing is written
 pub cost_none : (a : Asked) (page : Option ℕ) (now : Option (List ℕ)) (x y each s : ℕ) → s + x ≤ y → HasCost now now x y each s a page
 cost_none a page now x y each s l = record {
   front = [];
+  listed = λ d there. absurd (nothing_in d there);
   begins = λ e queue ends. record { rest = queue; is = refl };
   part = [];
   bytes = stays now;

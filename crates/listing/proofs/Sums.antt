@@ -229,7 +229,7 @@ sums_as a page totals x y each s ListingEnd.OutOfMemory h = tt
 
 -- the steps are those of the documents that are listed
 module _ (a : Asked) (page : Option ℕ) (totals : Totals) (x y each s : ℕ) (e : Ending) (queue : List Skeleton) (ends : Ends a page e queue) where
-  all_steps : (f : Ending) → IsAllDone a (IsSum totals x y each s) page f → s + x ≤ y + each * length queue
+  pub all_steps : (f : Ending) → IsAllDone a (IsSum totals x y each s) page f → s + x ≤ y + each * length queue
   all_steps f h = subst (λ q. s + x ≤ y + each * length q) (one_ending a page f e h.queue queue h.ends ends).1 h.done.ticks
 
   pub sum_steps : (end : ListingEnd) → EndsDone a (IsSum totals x y each s) page end → s + x ≤ y + each * length queue

@@ -1,7 +1,8 @@
 -- How many steps a listing counts for what it writes: this project's own.
-use Rattle.std.specs.Prelude.{ℕ, ◌+◌, ◌*◌, ◌≤◌, List, ◌++◌, length, Option, Bool, true, false, Result, Ok, Err}
+use Rattle.std.specs.Prelude.{ℕ, ◌+◌, ◌*◌, ◌≤◌, List, ◌++◌, length, Option, Bool, true, false, Result, Ok, Err, Contains}
 use Rattle.std.specs.Io.KnownBytes.{Appends}
 use Rattle.rng_model.specs.Hedges.{Skeleton}
+use Rattle.rng_model.specs.Listing.{IsListed}
 use Rattle.feasibility.specs.Tables.{Table}
 use Rattle.lister.specs.Walks.{Walk}
 use Rattle.listing_laws.specs.Pending.{Asked, Ending, Ends}
@@ -20,6 +21,7 @@ module _ (taken taken_now : Option (List ℕ)) (x y each steps : ℕ) where
   -- document that is written whole.
   pub record HasCost (a : Asked) (page : Option ℕ) : Type 0 where
     pub front : List Skeleton
+    pub listed : (s : Skeleton) → Contains front s → IsListed a.schema a.lists a.size s
     pub begins : (e : Ending) (queue : List Skeleton) → Ends a page e queue → BeginsWith front queue
     pub part : List ℕ
     pub bytes : Appends taken taken_now (texts_of front ++ part)

@@ -1,5 +1,5 @@
 -- What each end of a listing says: this project's own.
-use Rattle.std.specs.Prelude.{◌≡◌, ℕ, ◌+◌, ◌≤◌, List, [], Option, Bool, true, false, Result, Ok, Err}
+use Rattle.std.specs.Prelude.{◌≡◌, ℕ, ◌+◌, ◌≤◌, ⊤, List, [], Option, Bool, true, false, Result, Ok, Err}
 use Rattle.std.specs.Io.KnownBytes.{Appends}
 use Rattle.rng_model.specs.Hedges.{Skeleton}
 use Rattle.outside.specs.Counts.{Rose}
@@ -18,6 +18,11 @@ EndsAs a page taken taken_now (Stopped size count) = HasEnded a page (Ending.sto
 EndsAs a page taken taken_now Whole = HasEnded a page Ending.whole taken taken_now
 EndsAs a page taken taken_now WriteFault = HasBegun a page taken taken_now
 EndsAs a page taken taken_now OutOfMemory = HasWholeSizes a page taken taken_now
+
+-- a listing that ends within a size isn't whole
+abbrev pub IsCut : ListingEnd → Type 0
+IsCut Whole = ⊥
+IsCut end = ⊤
 
 -- a failed write has its cause, and another end leaves the count of faults
 abbrev pub HasCauseOf : ℕ → ℕ → ListingEnd → Type 0

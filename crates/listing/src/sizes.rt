@@ -1,12 +1,12 @@
 // The listing of all sizes.
-ghost use Rattle.std.specs.Prelude.{◌≡◌, ℕ, ◌+◌, ◌*◌, ◌≤◌, List, Option, option_map, IfSome, IfOk, OnOk, is_some};
+ghost use Rattle.std.specs.Prelude.{◌≡◌, ℕ, ◌+◌, ◌*◌, ◌≤◌, List, Option, option_map, max, IfSome, IfOk, IfErr, OnOk, is_some};
 ghost use Rattle.rng_model.specs.Hedges.{size as size_of, Skeleton as SkeletonValue};
 ghost use Rattle.rng_model.specs.Listing.{IsListed};
 ghost use Rattle.event_lines.specs.Spelled.{AreSpellings};
 ghost use Rattle.feasibility.specs.Tables.{Keeps, group_total, lists};
 ghost use Rattle.listing_laws.specs.Fronts.{IsBehind};
 ghost use Rattle.listing.specs.Progress.{asked_of};
-ghost use Rattle.listing.specs.Endings.{EndsAs, HasCauseOf, HasCauseIn, IsAtStart, IsAtSize, GoesOn, Begins};
+ghost use Rattle.listing.specs.Endings.{EndsAs, IsCut, HasCauseOf, HasCauseIn, IsAtStart, IsAtSize, GoesOn, Begins};
 ghost use Rattle.listing.specs.Doing.{IsDoneBelow};
 ghost use Rattle.listing.specs.Summing.{each_of};
 ghost use Rattle.listing.specs.Costs.{IsWrittenFor, HasCost, CostsTo, CostsFirst};
@@ -45,6 +45,8 @@ fn list_size<O: Sink, L: Ledger>(
         IsDoneBelow (asked_of table.old n after) (IsWrittenFor taken (O.taken out.old) x y each steps.old) page m left.old →
         CostsTo table.old n after page taken (O.taken out.new) (x + table.old.spent) (y + table.new.spent + each) each steps.new (y + most + each)
         (m + 1) left.new result }
+    ensures cut { IfErr result IsCut }
+    ensures grown { OnOk result (table.new.grown ≡ max table.old.grown m) }
     ensures left { OnOk result (IfSome left.new (λ k. 1 ≤ k)) }
     ensures room { lister.new.room ≡ lister.old.room }
     ensures kept { Keeps table.old table.new }
@@ -89,6 +91,12 @@ fn list_sizes<O: Sink, L: Ledger>(
         IsDoneBelow (asked_of table.old size after) (IsWrittenFor taken (O.taken out.old) (x + each) (y + each * first) each steps.old) page first left.old →
         HasCost taken (O.taken out.new) (x + table.old.spent) (y + group_total table.old * (table.old.limit + 1) + each * size) each steps.new
         (asked_of table.old size after) page }
+    ensures whole { let each = each_of table.old size in (x y : ℕ) (after : Option SkeletonValue) (page : Option ℕ) (taken : Option (List ℕ)) →
+        IsBehind (asked_of table.old size after) first →
+        IsDoneBelow (asked_of table.old size after) (IsWrittenFor taken (O.taken out.old) (x + each) (y + each * first) each steps.old) page first left.old →
+        result ≡ ListingEnd.Whole →
+        HasCost taken (O.taken out.new) (x + table.old.spent) (y + table.new.spent + each * size) each steps.new (asked_of table.old size after) page }
+    ensures grown { table.old.grown ≤ size → first ≤ table.old.grown + 1 → result ≡ ListingEnd.Whole → table.new.grown ≡ size }
     ensures kept { Keeps table.old table.new }
     ensures told { is_some (O.taken out.new) ≡ is_some (O.taken out.old) }
     ensures cause { HasCauseOf (O.faults out.old) (O.faults out.new) result }
@@ -125,6 +133,8 @@ fn resume<O: Sink, L: Ledger>(
     ensures costs { (page : Option ℕ) (taken : Option (List ℕ)) → IsAtStart page left.old taken (O.taken out.old) →
         CostsFirst table.now lister.old.room (option_map (λ c. c.now) after.entry) page taken (O.taken out.new) (steps.old + 3 * lister.old.room)
         (each_of table.now lister.old.room) steps.new left.new result }
+    ensures cut { IfErr result IsCut }
+    ensures known { IfOk result (λ m. m ≤ table.now.grown + 1) }
     ensures left { OnOk result (IfSome left.new (λ k. 1 ≤ k)) }
     ensures some { IfOk result (λ m. 1 ≤ m) }
     ensures most { 1 ≤ lister.old.room → IfOk result (λ m. m ≤ lister.old.room + 1) }
@@ -182,6 +192,10 @@ pub fn write_listing<O: Sink, L: Ledger>(
     ensures costs { let each = each_of table.old size in
         HasCost (O.taken out.old) (O.taken out.new) table.old.spent (steps.old + group_total table.old * (table.old.limit + 1) + 3 * size + each * size) each
         steps.new (asked_of table.old size (option_map (λ c. c.now) after.entry)) page }
+    ensures whole { let each = each_of table.old size in result ≡ ListingEnd.Whole →
+        HasCost (O.taken out.old) (O.taken out.new) table.old.spent (steps.old + table.new.spent + 3 * size + each * size) each
+        steps.new (asked_of table.old size (option_map (λ c. c.now) after.entry)) page }
+    ensures grown { table.old.grown ≤ size → result ≡ ListingEnd.Whole → table.new.grown ≡ size }
 {
     table.holds();
     let Ok((mut lister, spellings)) = begin(alloc, table, size) else {

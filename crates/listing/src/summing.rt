@@ -1,11 +1,12 @@
 // The totals of what is listed.
-ghost use Rattle.std.specs.Prelude.{◌≡◌, ℕ, ◌+◌, ◌*◌, ◌≤◌, ◌<◌, List, length, Option, None, IfSome, OnOk, Ok, true};
+ghost use Rattle.std.specs.Prelude.{◌≡◌, ℕ, ◌+◌, ◌*◌, ◌≤◌, ◌<◌, List, length, Option, None, max, IfSome, IfErr, OnOk, Ok, true};
 ghost use Rattle.rng_model.specs.Hedges.{Skeleton};
 ghost use Rattle.feasibility.specs.Tables.{Keeps, lists, group_total};
 ghost use Rattle.lister.specs.Walks.{IsWalkOf, IsSet};
 ghost use Rattle.listing_laws.specs.Pending.{Ending, Ends};
 ghost use Rattle.listing.specs.Progress.{asked_of, walk_left};
-ghost use Rattle.listing.specs.Doing.{IsDoneBelow, EndsDone, IsReady};
+ghost use Rattle.listing.specs.Endings.{IsCut};
+ghost use Rattle.listing.specs.Doing.{IsDoneBelow, IsAllDone, EndsDone, IsReady};
 ghost use Rattle.listing.specs.Summing.{SumsAs, SumsOn, SumsTo, IsSum, each_of};
 
 use crate::listing_end::ListingEnd;
@@ -37,6 +38,7 @@ fn sum_next<L: Ledger>(
     ensures sums { (n x y each : ℕ) (page : Option ℕ) → each_of table.now lister.old.room ≤ each →
         IsReady table.now n None (IsSum tally.old x y each steps.old) page lister.old left.old →
         SumsOn table.now n page lister.new left.new tally.new x y each steps.new result }
+    ensures cut { IfErr result IsCut }
     ensures left { OnOk result (IfSome left.new (λ k. 1 ≤ k)) }
     ensures set { IsSet lister.new.stage }
     ensures own { IsWalkOf table.now lister.new.size lister.new.stage }
@@ -74,6 +76,7 @@ fn sum_size<L: Ledger>(
     ensures sums { (n x y each : ℕ) (page : Option ℕ) → each_of table.now lister.old.room ≤ each →
         IsReady table.now n None (IsSum tally.old x y each steps.old) page lister.old left.old →
         SumsTo table.now n page (size + 1) left.new (IsSum tally.new x (y + each) each steps.new) (IsSum tally.new x (y + each) each steps.new) result }
+    ensures cut { IfErr result IsCut }
     ensures left { OnOk result (IfSome left.new (λ k. 1 ≤ k)) }
     ensures room { lister.new.room ≡ lister.old.room }
 {
@@ -99,6 +102,8 @@ fn sum_grown<L: Ledger>(
         IsDoneBelow (asked_of table.old n None) (IsSum tally.old x y each steps.old) page size left.old →
         SumsTo table.old n page (size + 1) left.new (IsSum tally.new (x + table.old.spent) (y + table.new.spent + each) each steps.new)
         (IsSum tally.new (x + table.old.spent) (y + most + each) each steps.new) result }
+    ensures cut { IfErr result IsCut }
+    ensures grown { OnOk result (table.new.grown ≡ max table.old.grown size) }
     ensures left { OnOk result (IfSome left.new (λ k. 1 ≤ k)) }
     ensures room { lister.new.room ≡ lister.old.room }
     ensures kept { Keeps table.old table.new }
@@ -132,6 +137,11 @@ fn sum_sizes<L: Ledger>(
         IsDoneBelow (asked_of table.old size None) (IsSum tally.old x y (each_of table.old size) steps.old) page 1 left.old →
         EndsDone (asked_of table.old size None) (IsSum tally.new (x + table.old.spent)
         (y + group_total table.old * (table.old.limit + 1) + each_of table.old size * size) (each_of table.old size) steps.new) page result }
+    ensures whole { (x y : ℕ) (page : Option ℕ) →
+        IsDoneBelow (asked_of table.old size None) (IsSum tally.old x y (each_of table.old size) steps.old) page 1 left.old → result ≡ ListingEnd.Whole →
+        IsAllDone (asked_of table.old size None) (IsSum tally.new (x + table.old.spent) (y + table.new.spent + each_of table.old size * size)
+        (each_of table.old size) steps.new) page Ending.whole }
+    ensures grown { table.old.grown ≤ size → result ≡ ListingEnd.Whole → table.new.grown ≡ size }
     ensures kept { Keeps table.old table.new }
 {
     let mut done = 0;
@@ -163,6 +173,9 @@ pub fn sum_listing<L: Ledger>(
     ensures ticks { (e : Ending) (queue : List Skeleton) → Ends (asked_of table.old size None) page e queue →
         steps.new + table.old.spent ≤ steps.old + group_total table.old * (table.old.limit + 1) + each_of table.old size * size
         + each_of table.old size * length queue }
+    ensures whole { (e : Ending) (queue : List Skeleton) → Ends (asked_of table.old size None) page e queue → result.0 ≡ ListingEnd.Whole →
+        steps.new + table.old.spent ≤ steps.old + table.new.spent + each_of table.old size * size + each_of table.old size * length queue }
+    ensures grown { table.old.grown ≤ size → result.0 ≡ ListingEnd.Whole → table.new.grown ≡ size }
 {
     table.holds();
     let mut tally = Tally::new();

@@ -1,11 +1,11 @@
 // The loops that write a listing.
-ghost use Rattle.std.specs.Prelude.{◌≡◌, ℕ, ◌+◌, ◌≤◌, ◌<◌, List, Option, IfSome, IsTrue, OnOk, Ok, true, false, is_some};
+ghost use Rattle.std.specs.Prelude.{◌≡◌, ℕ, ◌+◌, ◌≤◌, ◌<◌, List, Option, IfSome, IfErr, IsTrue, OnOk, Ok, true, false, is_some};
 ghost use Rattle.rng_model.specs.Hedges.{Skeleton as SkeletonValue};
 ghost use Rattle.event_lines.specs.Spelled.{AreSpellings};
 ghost use Rattle.feasibility.specs.Tables.{lists};
 ghost use Rattle.lister.specs.Walks.{IsWalkOf, IsSet};
 ghost use Rattle.listing.specs.Progress.{HasLeft, walk_left};
-ghost use Rattle.listing.specs.Endings.{IsReadyFor, Advances, Completes, HasCauseIn};
+ghost use Rattle.listing.specs.Endings.{IsReadyFor, Advances, Completes, IsCut, HasCauseIn};
 ghost use Rattle.listing.specs.Doing.{IsReady};
 ghost use Rattle.listing.specs.Summing.{each_of};
 ghost use Rattle.listing.specs.Costs.{IsWrittenFor, CostsOn, CostsTo};
@@ -54,6 +54,7 @@ fn write_next<O: Sink, L: Ledger>(
     ensures costs { (n x y each : ℕ) (after : Option SkeletonValue) (page : Option ℕ) (taken : Option (List ℕ)) → each_of table.now lister.old.room ≤ each →
         IsReady table.now n after (IsWrittenFor taken (O.taken out.old) x y each steps.old) page lister.old left.old →
         CostsOn table.now n after page taken (O.taken out.new) x y each steps.new lister.new left.new result }
+    ensures cut { IfErr result IsCut }
     ensures left { OnOk result (IfSome left.new (λ k. 1 ≤ k)) }
     ensures set { IsSet lister.new.stage }
     ensures own { IsWalkOf table.now lister.new.size lister.new.stage }
@@ -96,6 +97,7 @@ pub(crate) fn write_size<O: Sink, L: Ledger>(
     ensures costs { (n x y each : ℕ) (after : Option SkeletonValue) (page : Option ℕ) (taken : Option (List ℕ)) → each_of table.now lister.old.room ≤ each →
         IsReady table.now n after (IsWrittenFor taken (O.taken out.old) x y each steps.old) page lister.old left.old →
         CostsTo table.now n after page taken (O.taken out.new) x (y + each) each steps.new (y + each) (lister.old.size + 1) left.new result }
+    ensures cut { IfErr result IsCut }
     ensures left { OnOk result (IfSome left.new (λ k. 1 ≤ k)) }
     ensures room { lister.new.room ≡ lister.old.room }
     ensures told { is_some (O.taken out.new) ≡ is_some (O.taken out.old) }

@@ -1,7 +1,7 @@
 use Rattle.std.proofs.Common.{◌≡◌, ◌+◌, ◌*◌, ◌∙◌, ap, arith, refl, sym, subst}
 use Rattle.feasibility.specs.Tables.{group_total}
 use Rattle.listing.specs.Progress.{asked_of}
-use Rattle.listing.specs.Endings.{IsAtSize}
+use Rattle.listing.specs.Endings.{IsAtSize, IsCut}
 use Rattle.listing.specs.Doing.{IsDoneBelow}
 use Rattle.listing.specs.Summing.{each_of}
 use Rattle.listing.specs.Costs.{IsWrittenFor, HasCost}
@@ -32,6 +32,7 @@ loop-m-init g c = record {
         below_later (asked_of t c.args.size after) page taken (g.O.Sink.taken c.args.out.now) (x + each) (y + each * first) each s (x + each + t.spent) (y + t.spent + each * first) s first
             c.args.left.now (omega arith) h,
       );
+  grown = λ few known. (known, few);
   told = refl;
   faults = refl;
 }
@@ -70,6 +71,13 @@ loop-m-preserved g c =
             below_later (asked_of t size after) page taken now (x1 + l.table.spent) (y1 + last.spent + each) each s x1 (y + last.spent + each * (l.m + 1)) s (l.m + 1) c.list_size.new.left
                 (omega (arith, more))
                 (subst (λ a. IsDoneBelow a (IsWrittenFor taken now (x1 + l.table.spent) (y1 + last.spent + each) each s) page (l.m + 1) c.list_size.new.left) same below),
+          );
+      grown = λ few known.
+          let so = l.invariant.grown few known in
+          let next = c.in_default.ensures.grown in
+          let test = c.loop-m-test.true in (
+            omega (arith, next),
+            let small = so.1 in omega (arith, next, small, test),
           );
       told = c.list_size.ensures.told ∙ l.invariant.told;
       faults = c.in_default.ensures.cause ∙ l.invariant.faults;
@@ -123,3 +131,32 @@ returns-clause-costs g c = λ x y after page taken b h.
     let now = g.O.Sink.taken l.out in
     cost_later (asked_of t size after) page taken now x1 y1 each l.steps (x + t.spent) (y + limit + each * size) l.steps (omega (arith, small, all))
     (cost_below (asked_of t size after) page taken now x1 y1 each l.steps l.m l.left so.1)
+
+pub returns-in-Err-clause-whole : goal.returns-in-Err-clause-whole
+returns-in-Err-clause-whole g c = λ x y after page taken b h is. absurd (subst IsCut is c.in-Err.ensures.cut)
+
+pub returns-clause-whole : goal.returns-clause-whole
+returns-clause-whole g c = λ x y after page taken b h is.
+    let l = c.loop-m in
+    let t = c.args.table.now in
+    let size = c.args.size in
+    let each = each_of t size in
+    let over : l.m ≡ size + 1 = let test = c.loop-m-test.false in let most = l.invariant.most in omega (arith, test, most) in
+    let all : each * l.m ≡ each * size + each = ap (λ k. each * k) over ∙ one_size each size in
+    let so = l.invariant.costs x y after page taken b h in
+    let x1 = x + each + t.spent in
+    let y1 = y + l.table.spent + each * l.m in
+    let now = g.O.Sink.taken l.out in
+    cost_later (asked_of t size after) page taken now x1 y1 each l.steps (x + t.spent) (y + l.table.spent + each * size) l.steps (omega (arith, all))
+    (cost_below (asked_of t size after) page taken now x1 y1 each l.steps l.m l.left so.1)
+
+pub returns-in-Err-clause-grown : goal.returns-in-Err-clause-grown
+returns-in-Err-clause-grown g c = λ few known is. absurd (subst IsCut is c.in-Err.ensures.cut)
+
+pub returns-clause-grown : goal.returns-clause-grown
+returns-clause-grown g c = λ few known is.
+    let so = c.loop-m.invariant.grown few known in
+    let low = so.0 in
+    let high = so.1 in
+    let test = c.loop-m-test.false in
+    omega (arith, low, high, test)

@@ -129,3 +129,9 @@ returns-in-Err-clause-costs g c = λ page taken h.
     let begin = ready_for t n (Some cursor) v page c.args.left.now taken old 0 y each s1 (omega (arith, ticks)) ready in
     subst (λ o. HasCost taken now 0 (y + each) each s2 (asked_of t n (value_of o)) page) (sym c.in-Some.is)
     (c.in-Err.ensures.costs n 0 y each (Some cursor) page taken least begin)
+
+pub returns-in-Ok-clause-known : goal.returns-in-Ok-clause-known
+returns-in-Ok-clause-known g c =
+    let grown = subst (λ o. IfSome o (λ b. size b.now ≤ c.args.table.now.grown)) c.in-Some.is c.requires.grown in
+    let counted = c.size.ensures in
+    omega (arith, grown, counted)

@@ -1,6 +1,7 @@
 use Rattle.std.proofs.Common.{◌+◌, ◌≤◌, ap, sym, subst, ◌∙◌, None}
-use Rattle.std.specs.Prelude.{Ok}
+use Rattle.std.specs.Prelude.{Ok, IfErr}
 use Rattle.listing.specs.Progress.{asked_of}
+use Rattle.listing.specs.Endings.{IsCut}
 use Rattle.listing.specs.Doing.{IsDoneBelow}
 use Rattle.listing.specs.Summing.{IsSum, SumsOn, SumsTo, each_of}
 use Rattle.listing.proofs.Steps.{passed_on}
@@ -40,3 +41,7 @@ returns-clause-sums g c = λ n x y each page k h.
     (c.in_ok-sum_next.ensures.sums n x y each page (subst (λ r. each_of t r ≤ each) (sym l.invariant.room) k) (l.invariant.ready n x y each page k h)) in
     subst (λ m. IsDoneBelow (asked_of t n None) (IsSum c.sum_next.new.tally x (y + each) each c.sum_next.new.steps) page (m + 1) c.sum_next.new.left)
     (c.sum_next.ensures.same.1 ∙ l.invariant.size) below
+
+pub returns-in_err-sum_next-clause-cut : goal.returns-in_err-sum_next-clause-cut
+returns-in_err-sum_next-clause-cut g c =
+    subst (λ r. IfErr r IsCut) (sym (passed_on c.from_residual.result c.in_err-sum_next.field-0.0 c.from_residual.ensures.1)) c.in_err-sum_next.ensures.cut

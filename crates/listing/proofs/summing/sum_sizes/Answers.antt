@@ -2,6 +2,7 @@ use Rattle.std.proofs.Common.{◌≡◌, ◌+◌, ◌*◌, arith, sym, subst, �
 use Rattle.feasibility.specs.Tables.{group_total}
 use Rattle.listing_laws.specs.Pending.{Ending}
 use Rattle.listing.specs.Progress.{asked_of}
+use Rattle.listing.specs.Endings.{IsCut}
 use Rattle.listing.specs.Doing.{IsDoneBelow, EndsDone}
 use Rattle.listing.specs.Summing.{IsSum, each_of}
 use Rattle.listing.proofs.FromSizeToSize.{same_asked, keeps_itself, keeps_on}
@@ -15,6 +16,7 @@ loop-done-init g c = record {
   room = c.requires.room;
   some = c.requires.some;
   kept = keeps_itself c.args.table.now;
+  grown = λ few. (omega arith, few);
   sums = λ x y page h.
       let t = c.args.table.now in
       let totals = c.args.tally.now in
@@ -36,6 +38,13 @@ loop-done-preserved g c =
       room = c.sum_grown.ensures.room ∙ l.invariant.room;
       some = c.in_default.ensures.left;
       kept = keeps_on t l.table last l.invariant.kept c.sum_grown.ensures.kept;
+      grown = λ few.
+          let so = l.invariant.grown few in
+          let next = c.in_default.ensures.grown in
+          let test = c.loop-done-test.true in (
+            omega (arith, next),
+            let small = so.1 in omega (arith, next, small, test),
+          );
       sums = λ x y page h.
           let kept = l.invariant.kept in
           let same = same_asked t l.table size None kept in
@@ -97,3 +106,32 @@ returns-clause-sums g c = λ x y page h.
     (λ front q. sum_later l.tally x1 y1 each l.steps x1 (y + limit + each * size) l.steps front (omega (arith, small, few)) q)
     (whole t size (IsSum l.tally x1 y1 each l.steps) page l.left
     (subst (λ m. IsDoneBelow (asked_of t size None) (IsSum l.tally x1 y1 each l.steps) page (m + 1) l.left) over (l.invariant.sums x y page h)))
+
+pub returns-in-Err-clause-whole : goal.returns-in-Err-clause-whole
+returns-in-Err-clause-whole g c = λ x y page h is. absurd (subst IsCut is c.in-Err.ensures.cut)
+
+pub returns-clause-whole : goal.returns-clause-whole
+returns-clause-whole g c = λ x y page h is.
+    let l = c.loop-done in
+    let t = c.args.table.now in
+    let size = c.args.size in
+    let each = each_of t size in
+    let x1 = x + t.spent in
+    let y1 = y + l.table.spent + each * l.done in
+    let over : l.done ≡ size = let test = c.loop-done-test.false in let most = l.invariant.most in omega (arith, test, most) in
+    let few = few_sizes each l.done size (omega (arith, over)) in
+    whole_so (asked_of t size None) (IsSum l.tally x1 y1 each l.steps) (IsSum l.tally x1 (y + l.table.spent + each * size) each l.steps) page Ending.whole
+    (λ front q. sum_later l.tally x1 y1 each l.steps x1 (y + l.table.spent + each * size) l.steps front (omega (arith, few)) q)
+    (whole t size (IsSum l.tally x1 y1 each l.steps) page l.left
+    (subst (λ m. IsDoneBelow (asked_of t size None) (IsSum l.tally x1 y1 each l.steps) page (m + 1) l.left) over (l.invariant.sums x y page h)))
+
+pub returns-in-Err-clause-grown : goal.returns-in-Err-clause-grown
+returns-in-Err-clause-grown g c = λ few is. absurd (subst IsCut is c.in-Err.ensures.cut)
+
+pub returns-clause-grown : goal.returns-clause-grown
+returns-clause-grown g c = λ few is.
+    let so = c.loop-done.invariant.grown few in
+    let low = so.0 in
+    let high = so.1 in
+    let test = c.loop-done-test.false in
+    omega (arith, low, high, test)

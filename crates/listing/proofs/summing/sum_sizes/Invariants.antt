@@ -11,6 +11,7 @@ invariant-loop-done g l = record {
   room : l.lister.room ≡ l.size;
   some : IfSome l.left (λ k. 1 ≤ k);
   kept : Keeps l.fn.table l.table;
+  grown : l.fn.table.grown ≤ l.size → (l.done ≤ l.table.grown) × (l.table.grown ≤ l.size);
   sums : (x y : ℕ) (page : Option ℕ) →
       IsDoneBelow (asked_of l.fn.table l.size None) (IsSum l.fn.tally x y (each_of l.fn.table l.size) l.fn.steps) page 1 l.fn.left →
       IsDoneBelow (asked_of l.fn.table l.size None)

@@ -1,7 +1,7 @@
 use Rattle.std.proofs.Common.{◌+◌, ◌≤◌, ap, sym, subst, ◌∙◌}
-use Rattle.std.specs.Prelude.{Bool, Ok, Err}
+use Rattle.std.specs.Prelude.{Bool, Ok, Err, IfErr}
 use Rattle.listing.specs.Progress.{asked_of, IsWrittenBelow}
-use Rattle.listing.specs.Endings.{Advances, Completes, HasCauseIn}
+use Rattle.listing.specs.Endings.{Advances, Completes, IsCut, HasCauseIn}
 use Rattle.listing.specs.Doing.{IsDoneBelow}
 use Rattle.listing.specs.Summing.{each_of}
 use Rattle.listing.specs.Costs.{IsWrittenFor, CostsOn, CostsTo}
@@ -68,3 +68,7 @@ returns-clause-costs g c = λ n x y each after page taken k h.
     let below = subst (λ b. CostsOn t n after page taken now x y each steps c.write_next.new.lister left (Ok b)) c.if-branch.false
     (c.in_ok-write_next.ensures.costs n x y each after page taken (subst (λ r. each_of t r ≤ each) (sym l.invariant.room) k) (l.invariant.costs n x y each after page taken k h)) in
     subst (λ m. IsDoneBelow (asked_of t n after) (IsWrittenFor taken now x (y + each) each steps) page (m + 1) left) (c.write_next.ensures.same.1 ∙ l.invariant.size) below
+
+pub returns-in_err-write_next-clause-cut : goal.returns-in_err-write_next-clause-cut
+returns-in_err-write_next-clause-cut g c =
+    subst (λ r. IfErr r IsCut) (sym (passed_on c.from_residual.result c.in_err-write_next.field-0.0 c.from_residual.ensures.1)) c.in_err-write_next.ensures.cut
