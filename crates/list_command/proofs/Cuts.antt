@@ -35,7 +35,7 @@ cut_of_lines front given t part begins (more, is) = (
     parts a b c d = ap (λ xs. xs ++ d) (sym (append_assoc a b c)) ∙ append_assoc (a ++ b) c d
 
 -- the documents of a listing are skeletons
-all_skeletons : (xs : List Skeleton) → ((z : Skeleton) → IsIn z xs → IsSkeleton z) → AllByRecursion IsSkeleton xs
+pub all_skeletons : (xs : List Skeleton) → ((z : Skeleton) → IsIn z xs → IsSkeleton z) → AllByRecursion IsSkeleton xs
 all_skeletons [] f = tt
 all_skeletons (x ∷ xs) f = (f x (inl refl), all_skeletons xs (λ z h. f z (inr h)))
 

@@ -14,3 +14,6 @@ pub mod Ends
 pub mod Cursors
 pub mod Commands
 pub mod Calls
+pub mod Alike
+pub mod Within
+pub mod Accepted

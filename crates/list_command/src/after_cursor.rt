@@ -9,6 +9,7 @@ ghost use Rattle.command_words.specs.Words.{Command as CommandValue};
 ghost use Rattle.command_words.specs.Requests.{request_of};
 ghost use Rattle.list_command.specs.Asking.{IsTableOf, EndsOver, EndsAfter};
 ghost use Rattle.list_command.specs.Causes.{HasWriteCause, HasCauses};
+ghost use Rattle.list_command.specs.Ticks.{WritesWithin};
 
 use crate::cursor_file::read_cursor;
 use crate::document_list::outcome_of;
@@ -45,6 +46,7 @@ pub(crate) fn resume<F: Shelf, O: Sink, L: Ledger>(
         (O.faults out.old) (O.faults out.new) result }
     ensures misses { (F.misses shelf.new ≡ F.misses shelf.old) ⊎ IsMissing (F.files shelf.old) cursor.now }
     ensures calls { IfSome (F.files shelf.old) (λ files. RisesAtMost (length_of files cursor.now + 2) (F.calls shelf.old) (F.calls shelf.new)) }
+    ensures within { WritesWithin steps.old steps.new schema.schema (request_of asked.now) size.nodes (O.taken out.old) (O.taken out.new) result }
 {
     let Ok(mut table) = table_of(alloc, schema, asked) else {
         return Outcome::OutOfMemory;
@@ -77,7 +79,10 @@ fn list_after<O: Sink, L: Ledger>(
         EndsAfter (request_of asked.now) (O.taken out.old) (O.taken out.new) g file name cursor.now
         (O.faults out.old) (O.faults out.new) result }
     ensures cause { HasWriteCause (O.faults out.old) (O.faults out.new) result }
+    ensures within { (g : SchemaValue) → IsTableOf table.old g (request_of asked.now) → table.old.grown ≡ 0 → table.old.spent ≡ 0 →
+        WritesWithin steps.old steps.new g (request_of asked.now) size.nodes (O.taken out.old) (O.taken out.new) result }
 {
+    table.holds();
     let nodes = size.nodes as usize;
     if nodes < cursor.size() {
         return Outcome::CursorRefused(CursorRefusal::CursorTooLarge);
@@ -88,5 +93,6 @@ fn list_after<O: Sink, L: Ledger>(
     owed_is_asked();
     texts_differ();
     let end = write_listing(alloc, table, nodes, Some(cursor), asked.page, out, steps);
+    table.holds();
     outcome_of(end)
 }

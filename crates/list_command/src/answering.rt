@@ -1,5 +1,5 @@
 // What is asked for, done.
-ghost use Rattle.std.specs.Prelude.{◌≡◌, ◌⊎◌, Some, IfSome};
+ghost use Rattle.std.specs.Prelude.{◌≡◌, ◌⊎◌, ℕ, Some, IfSome};
 ghost use Rattle.rng_model.specs.Texts.{Text};
 ghost use Rattle.rng_model.specs.Restrictions.{BreaksNoRule};
 ghost use Rattle.outside.specs.Counts.{RisesAtMost};
@@ -9,10 +9,11 @@ ghost use Rattle.command_words.specs.Requests.{request_of};
 ghost use Rattle.list_command.specs.Asking.{EndsOver, MissesCursor, cursor_calls};
 ghost use Rattle.list_command.specs.Causes.{HasCauses};
 ghost use Rattle.list_command.specs.Runs.{AnswersAsOwed, MissesAsOwed, CallsAsAsked};
+ghost use Rattle.list_command.specs.Ticks.{CountsAccepted, ListsUpTo, ListsWithin, MadeWithin, WritesWithin};
 
 use crate::after_cursor::resume;
 use crate::document_list::list;
-use crate::laws::owed_is_asked;
+use crate::laws::{owed_is_asked, schemas_are_decided};
 use crate::outcome::Outcome;
 use crate::schema_file::read_file;
 use crate::seeded::sum_seeded;
@@ -39,6 +40,10 @@ pub(crate) fn answer<F: Shelf, O: Sink, L: Ledger>(
         (O.faults out.old) (O.faults out.new) result }
     ensures misses { (F.misses shelf.new ≡ F.misses shelf.old) ⊎ MissesAsOwed (request_of asked.now) (F.files shelf.old) }
     ensures calls { CallsAsAsked (request_of asked.now) (F.files shelf.old) (F.calls shelf.old) (F.calls shelf.new) }
+    ensures lists { (files : Shelved) → F.files shelf.old ≡ Some files →
+        ListsWithin steps.old steps.new (request_of asked.now) files (O.taken out.old) (O.taken out.new) result }
+    ensures sums { MadeWithin steps.old steps.new (request_of asked.now) result }
+    ensures accepted { (files : Shelved) → F.files shelf.old ≡ Some files → CountsAccepted steps.old steps.new (request_of asked.now) files }
 {
     if let Command::Seeded { number, size } = asked.command {
         return sum_seeded(alloc, asked, number, size, out, steps);
@@ -66,8 +71,12 @@ fn answer_in_file<F: Shelf, O: Sink, L: Ledger>(
         (O.faults out.old) (O.faults out.new) result }
     ensures misses { (F.misses shelf.new ≡ F.misses shelf.old) ⊎ MissesAsOwed (request_of asked.now) (F.files shelf.old) }
     ensures calls { CallsAsAsked (request_of asked.now) (F.files shelf.old) (F.calls shelf.old) (F.calls shelf.new) }
+    ensures lists { (files : Shelved) → F.files shelf.old ≡ Some files →
+        ListsWithin steps.old steps.new (request_of asked.now) files (O.taken out.old) (O.taken out.new) result }
+    ensures accepted { (files : Shelved) → F.files shelf.old ≡ Some files → CountsAccepted steps.old steps.new (request_of asked.now) files }
 {
     owed_is_asked();
+    schemas_are_decided();
     match read_file(alloc, file, shelf) {
         Ok(schema) => answer_over(alloc, schema, asked, shelf, out, steps),
         Err(outcome) => outcome,
@@ -93,6 +102,8 @@ fn answer_over<F: Shelf, O: Sink, L: Ledger>(
     ensures misses { (F.misses shelf.new ≡ F.misses shelf.old) ⊎ MissesCursor (request_of asked.now) (F.files shelf.old) }
     ensures calls { IfSome (F.files shelf.old) (λ files.
         RisesAtMost (cursor_calls files (request_of asked.now).command) (F.calls shelf.old) (F.calls shelf.new)) }
+    ensures within { (n : ℕ) → ListsUpTo (request_of asked.now).command n →
+        WritesWithin steps.old steps.new schema.schema (request_of asked.now) n (O.taken out.old) (O.taken out.new) result }
 {
     match asked.command {
         Command::List { size, .. } => list(alloc, schema, asked, size, out, steps),

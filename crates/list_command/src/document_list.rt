@@ -7,6 +7,7 @@ ghost use Rattle.command_words.specs.Words.{Command as CommandValue};
 ghost use Rattle.command_words.specs.Requests.{request_of};
 ghost use Rattle.list_command.specs.Asking.{outcome_from, EndsOver};
 ghost use Rattle.list_command.specs.Causes.{HasWriteCause};
+ghost use Rattle.list_command.specs.Ticks.{WritesWithin};
 
 use crate::laws::owed_is_asked;
 use crate::outcome::Outcome;
@@ -52,6 +53,7 @@ pub(crate) fn list<O: Sink, L: Ledger>(
     ensures owed { (file : Text) (files : Shelved) (reads : ℕ) → (request_of asked.now).command ≡ CommandValue.list size.nodes file →
         EndsOver (request_of asked.now) (O.taken out.old) (O.taken out.new) schema.schema file files reads reads (O.faults out.old) (O.faults out.new) result }
     ensures cause { HasWriteCause (O.faults out.old) (O.faults out.new) result }
+    ensures within { WritesWithin steps.old steps.new schema.schema (request_of asked.now) size.nodes (O.taken out.old) (O.taken out.new) result }
 {
     let Ok(mut table) = table_of(alloc, schema, asked) else {
         return Outcome::OutOfMemory;
@@ -68,6 +70,7 @@ pub(crate) fn list<O: Sink, L: Ledger>(
         out,
         steps,
     );
+    table.holds();
     drop(table);
     outcome_of(end)
 }

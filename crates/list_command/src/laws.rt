@@ -29,7 +29,7 @@ use table_laws::counts_of_states;
 use token_laws::{one_lex_refusal, one_token_list, tokens_or_refusal};
 
 /// A schema's bytes are refused for one fault, or accepted as one schema.
-fn schemas_are_decided()
+pub(crate) fn schemas_are_decided()
     ensures { AreDecided Refuses Accepts }
 {
     one_token_list();

@@ -1,7 +1,7 @@
 // Where a cursor stands among what is listed.
-ghost use Rattle.std.specs.Prelude.{◌≤◌, OnOk, IfErr};
+ghost use Rattle.std.specs.Prelude.{◌≡◌, ◌+◌, ◌*◌, ◌≤◌, max, OnOk, OnErr, IfErr};
 ghost use Rattle.rng_model.specs.Hedges.{size as size_of};
-ghost use Rattle.feasibility.specs.Tables.{Keeps};
+ghost use Rattle.feasibility.specs.Tables.{Keeps, group_total};
 ghost use Rattle.list_command.specs.Asking.{IsPlaced, IsNotPlaced};
 
 use crate::outcome::{CursorRefusal, Outcome};
@@ -23,6 +23,9 @@ pub(crate) fn place_cursor<L: Ledger>(
     ensures placed { OnOk result (IsPlaced table.new size cursor.now) }
     ensures refused { IfErr result (IsNotPlaced table.old cursor.now) }
     ensures kept { Keeps table.old table.new }
+    ensures grown { OnOk result (table.new.grown ≡ max table.old.grown (size_of cursor.now)) }
+    ensures spent { OnOk result (steps.new + table.old.spent ≤ steps.old + table.new.spent + 6 * size) }
+    ensures stopped { OnErr result (steps.new + table.old.spent ≤ steps.old + group_total table.old * (table.old.limit + 1) + 6 * size) }
 {
     match table.grow_to(cursor.size(), steps) {
         Ok(()) => {}
@@ -31,6 +34,7 @@ pub(crate) fn place_cursor<L: Ledger>(
         }
         Err(TableFault::OutOfMemory) => return Err(Outcome::OutOfMemory),
     }
+    table.holds();
     match place(table, cursor, size, steps) {
         Ok(()) => Ok(()),
         Err(CursorFault::CursorTooLarge) => {

@@ -37,6 +37,7 @@ pub(crate) fn table_of(
     requires sound { BreaksNoRule schema.schema }
     ensures asked { IfOk result (λ t. IsTableOf t schema.schema (request_of asked.now)) }
     ensures empty { IfOk result (λ t. t.grown ≡ 0) }
+    ensures unspent { IfOk result (λ t. t.spent ≡ 0) }
 {
     let (universe, atoms) = names_and_texts(alloc, &schema, asked)?;
     Table::new(alloc, schema, universe, atoms, asked.limit as usize)

@@ -2,15 +2,17 @@
 ghost use Rattle.std.specs.Prelude.{◌≡◌, ◌⊎◌, ◌↔◌, ◌≤◌, ◌++◌, [], ℕ, List, Some, map, string_bytes};
 ghost use Rattle.outside.specs.Counts.{Rose};
 ghost use Rattle.outside.specs.Devices.{Shelved};
-ghost use Rattle.command_words.specs.Words.{HasNoForm};
+ghost use Rattle.rng_model.specs.Texts.{Text};
+ghost use Rattle.command_words.specs.Words.{Request, HasForm, HasNoForm};
 ghost use Rattle.list_command.specs.Causes.{HasCauses};
 ghost use Rattle.list_command.specs.Whole.{EndsWhole};
-ghost use Rattle.list_command.specs.Runs.{EndsAsOwed, IsReadFaultOwed, IsFault, CallsAsNeeded, WritesFaultLine};
+ghost use Rattle.list_command.specs.Runs.{EndsAsOwed, OwesFor, IsReadFaultOwed, IsFault, CallsAsNeeded, WritesFaultLine};
+ghost use Rattle.list_command.specs.Ticks.{ListsWithin, MadeWithin};
 
 use crate::answering::answer;
 use crate::fault_lines::write_fault_line;
-use crate::laws::fitting_runs_are_whole;
-use crate::outcome::Outcome;
+use crate::laws::{fitting_runs_are_whole, owed_is_asked, schemas_are_decided};
+use crate::outcome::{Outcome, SchemaFault};
 use command_words::read_words;
 use outside::{Shelf, Sink, Steps};
 use std::alloc::Global;
@@ -44,6 +46,14 @@ pub fn run<F: Shelf, O: Sink, E: Sink, L: Ledger>(
     ensures misses { (F.misses shelf.new ≡ F.misses shelf.old) ⊎ IsReadFaultOwed (map string_bytes words.now.items) (F.files shelf.old) }
     ensures calls { CallsAsNeeded (map string_bytes words.now.items) (F.files shelf.old) (F.calls shelf.old) (F.calls shelf.new) }
 
+    // How many steps it counts: for what is listed and summed, and none without a schema that is accepted.
+    ensures lists { (files : Shelved) (request : Request) → F.files shelf.old ≡ Some files → HasForm (map string_bytes words.now.items) request →
+        ListsWithin steps.old steps.new request files (O.taken out.old) (O.taken out.new) result }
+    ensures sums { (request : Request) → HasForm (map string_bytes words.now.items) request → MadeWithin steps.old steps.new request result }
+    ensures formless { HasNoForm (map string_bytes words.now.items) → steps.new ≡ steps.old }
+    ensures refused { (files : Shelved) (needed : List Text) (fault : SchemaFault) (name : Text) → F.files shelf.old ≡ Some files →
+        OwesFor (map string_bytes words.now.items) files needed (Outcome.SchemaRefused fault name) [] → steps.new ≡ steps.old }
+
     ensures line { WritesFaultLine result (E.taken err.old) (E.taken err.new) (E.faults err.old) (E.faults err.new) }
 {
     fitting_runs_are_whole();
@@ -70,9 +80,18 @@ fn obey<F: Shelf, O: Sink, L: Ledger>(
     ensures kept { result ≡ Outcome.Words → (F.faults shelf.new ≡ F.faults shelf.old) × (O.faults out.new ≡ O.faults out.old) }
     ensures misses { (F.misses shelf.new ≡ F.misses shelf.old) ⊎ IsReadFaultOwed (map string_bytes words.now) (F.files shelf.old) }
     ensures calls { CallsAsNeeded (map string_bytes words.now) (F.files shelf.old) (F.calls shelf.old) (F.calls shelf.new) }
+
+    ensures lists { (files : Shelved) (request : Request) → F.files shelf.old ≡ Some files → HasForm (map string_bytes words.now) request →
+        ListsWithin steps.old steps.new request files (O.taken out.old) (O.taken out.new) result }
+    ensures sums { (request : Request) → HasForm (map string_bytes words.now) request → MadeWithin steps.old steps.new request result }
+    ensures formless { HasNoForm (map string_bytes words.now) → steps.new ≡ steps.old }
+    ensures refused { (files : Shelved) (needed : List Text) (fault : SchemaFault) (name : Text) → F.files shelf.old ≡ Some files →
+        OwesFor (map string_bytes words.now) files needed (Outcome.SchemaRefused fault name) [] → steps.new ≡ steps.old }
 {
     let Some(asked) = read_words(words) else {
         return Outcome::Words;
     };
+    owed_is_asked();
+    schemas_are_decided();
     answer(alloc, &asked, shelf, out, steps)
 }

@@ -5,6 +5,7 @@ use Rattle.list_command.proofs.Exits.{ends_unwritten}
 use Rattle.list_command.proofs.Causes.{read_causes, write_causes}
 use Rattle.list_command.proofs.Calls.{rises_not}
 use Rattle.list_command.proofs.Cursors.{ends_at_file}
+use Rattle.list_command.proofs.Within.{none_written}
 use Rattle.list_command.proofs.after_cursor.resume.Goals as goal
 
 pub returns-in_default-clause-owed : goal.returns-in_default-clause-owed
@@ -29,3 +30,13 @@ returns-in-Err-clause-owed g c = λ file files asks told words form read.
 
 pub returns-in-Err-clause-cause : goal.returns-in-Err-clause-cause
 returns-in-Err-clause-cause g c = read_causes _ _ _ _ _ c.in-Err.outcome refl c.in-Err.ensures.cause
+
+pub returns-in_default-clause-within : goal.returns-in_default-clause-within
+returns-in_default-clause-within g c = none_written c.args.schema.schema (request_of c.args.asked.now) c.args.size.nodes _ _ _ c.args.steps.now
+
+pub returns-in-Ok-read_cursor-clause-within : goal.returns-in-Ok-read_cursor-clause-within
+returns-in-Ok-read_cursor-clause-within g c =
+    c.list_after-outcome.ensures.within c.args.schema.schema c.in-Ok.ensures.asked c.in-Ok.ensures.empty c.in-Ok.ensures.unspent
+
+pub returns-in-Err-clause-within : goal.returns-in-Err-clause-within
+returns-in-Err-clause-within g c = none_written c.args.schema.schema (request_of c.args.asked.now) c.args.size.nodes _ _ _ c.args.steps.now

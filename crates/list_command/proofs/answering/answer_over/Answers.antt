@@ -1,7 +1,9 @@
-use Rattle.std.proofs.Common.{refl, ap}
+use Rattle.std.proofs.Common.{refl, ap, subst}
 use Rattle.command_words.specs.Requests.{request_of, command_of}
 use Rattle.list_command.proofs.Causes.{write_causes, causes_for, missed_for}
 use Rattle.list_command.proofs.Calls.{rises_not, lists_file, resumes_file, universe_of_file, states_of_file, seeded_in_no_file, misses_cursor, calls_for_cursor}
+use Rattle.list_command.specs.Ticks.{WritesWithin}
+use Rattle.list_command.proofs.Accepted.{lists_to, resumes_to, universe_to, states_to}
 use Rattle.list_command.proofs.answering.answer_over.Goals as goal
 
 pub unreachable-unreachable : goal.unreachable-unreachable
@@ -53,3 +55,19 @@ returns-in-States-clause-cause g c = write_causes _ _ _ _ _ c.count_states.resul
 
 pub returns-in-States-clause-calls : goal.returns-in-States-clause-calls
 returns-in-States-clause-calls g c = rises_not _ _ _
+
+pub returns-in-List-clause-within : goal.returns-in-List-clause-within
+returns-in-List-clause-within g c = λ n up.
+    subst (λ k. WritesWithin c.args.steps.now c.list.new.steps c.args.schema.schema (request_of c.args.asked.now) k (g.O.Sink.taken c.args.out.now) (g.O.Sink.taken c.list.new.out) c.list.result)
+    (lists_to (request_of c.args.asked.now).command c.in-List.size.nodes n c.in-List.file.now (ap command_of c.in-List.is) up) c.list.ensures.within
+
+pub returns-in-Resume-clause-within : goal.returns-in-Resume-clause-within
+returns-in-Resume-clause-within g c = λ n up.
+    subst (λ k. WritesWithin c.args.steps.now c.resume.new.steps c.args.schema.schema (request_of c.args.asked.now) k (g.O.Sink.taken c.args.out.now) (g.O.Sink.taken c.resume.new.out) c.resume.result)
+    (resumes_to (request_of c.args.asked.now).command c.in-Resume.size.nodes n c.in-Resume.file.now c.in-Resume.cursor.now (ap command_of c.in-Resume.is) up) c.resume.ensures.within
+
+pub returns-in-Universe-clause-within : goal.returns-in-Universe-clause-within
+returns-in-Universe-clause-within g c = λ n up. absurd (universe_to (request_of c.args.asked.now).command n c.in-Universe.file.now (ap command_of c.in-Universe.is) up)
+
+pub returns-in-States-clause-within : goal.returns-in-States-clause-within
+returns-in-States-clause-within g c = λ n up. absurd (states_to (request_of c.args.asked.now).command c.in-States.size.nodes n c.in-States.file.now (ap command_of c.in-States.is) up)

@@ -1,8 +1,11 @@
-use Rattle.std.proofs.Common.{refl}
+use Rattle.std.proofs.Common.{◌≡◌, refl, arith}
 use Rattle.command_words.specs.Requests.{request_of}
 use Rattle.list_command.proofs.Ends.{sum_cause, not_summed_up}
 use Rattle.list_command.proofs.Exits.{appends_nothing}
 use Rattle.list_command.proofs.Commands.{summary_ends, no_summary_ends, summary_is_cut}
+use Rattle.list_command.specs.declared.outcome.Outcome.{Outcome}
+use Rattle.list_command.specs.Asking.{outcome_from}
+use Rattle.list_command.proofs.Within.{summing_within, done_is_whole}
 use Rattle.list_command.proofs.seeded.sum_table.Goals as goal
 
 pub returns-then-not-is_summed_up-clause-owed : goal.returns-then-not-is_summed_up-clause-owed
@@ -34,3 +37,23 @@ returns-in-Err-clause-owed g c = λ h z is asks accepts words files form reads.
 
 pub returns-in-Err-clause-cause : goal.returns-in-Err-clause-cause
 returns-in-Err-clause-cause g c = c.in-Err.ensures.cause.failed
+
+pub returns-then-not-is_summed_up-clause-within : goal.returns-then-not-is_summed_up-clause-within
+returns-then-not-is_summed_up-clause-within g c = λ h is empty unspent.
+    let end = c.sum_listing-end in
+    rw c.outcome_of.ensures
+    (summing_within c.args.table.now end.new.table end.ensures.kept h (request_of c.args.asked.now) is c.holds.ensures c.args.size.nodes c.args.steps.now end.new.steps (outcome_from end.result.0) end.ensures.ticks
+    (λ done. let whole = done_is_whole end.result.0 done in (end.ensures.grown (omega (arith, empty)) whole, λ e queue ends. end.ensures.whole e queue ends whole)) unspent)
+
+pub returns-in-Ok-clause-within : goal.returns-in-Ok-clause-within
+returns-in-Ok-clause-within g c = λ h is empty unspent.
+    let end = c.sum_listing-end in
+    rw c.outcome_of-in-Ok.ensures
+    (summing_within c.args.table.now end.new.table end.ensures.kept h (request_of c.args.asked.now) is c.holds.ensures c.args.size.nodes c.args.steps.now end.new.steps (outcome_from end.result.0) end.ensures.ticks
+    (λ done. let whole = done_is_whole end.result.0 done in (end.ensures.grown (omega (arith, empty)) whole, λ e queue ends. end.ensures.whole e queue ends whole)) unspent)
+
+pub returns-in-Err-clause-within : goal.returns-in-Err-clause-within
+returns-in-Err-clause-within g c = λ h is empty unspent.
+    let end = c.sum_listing-end in
+    (summing_within c.args.table.now end.new.table end.ensures.kept h (request_of c.args.asked.now) is c.holds.ensures c.args.size.nodes c.args.steps.now end.new.steps Outcome.WriteFault end.ensures.ticks
+    (λ done. let clash : Outcome.WriteFault ≡ Outcome.Done = done in absurd (cc)) unspent)

@@ -1,10 +1,12 @@
-use Rattle.std.proofs.Common.{inl, inr, refl}
+use Rattle.std.proofs.Common.{inl, inr, refl, subst}
 use Rattle.command_words.specs.Requests.{request_of}
 use Rattle.list_command.specs.Owed.{Owes}
 use Rattle.list_command.specs.Runs.{EndsAsOwed}
 use Rattle.list_command.proofs.Exits.{appends_nothing}
 use Rattle.list_command.proofs.Calls.{no_calls}
 use Rattle.list_command.proofs.Causes.{causes_for, missed_for, no_words}
+use Rattle.list_command.specs.Ticks.{ListsWithin, MadeWithin}
+use Rattle.list_command.proofs.Accepted.{unrefused}
 use Rattle.list_command.proofs.whole_run.obey.Goals as goal
 
 pub returns-in_default-clause-owed : goal.returns-in_default-clause-owed
@@ -31,3 +33,26 @@ returns-clause-misses g c = missed_for _ _ _ (λ missed. missed _ c.in-Some.ensu
 
 pub returns-clause-calls : goal.returns-clause-calls
 returns-clause-calls g c = c.answer.ensures.calls _ c.in-Some.ensures.form
+
+pub returns-in_default-clause-lists : goal.returns-in_default-clause-lists
+returns-in_default-clause-lists g c = λ files request told form. absurd (c.in_default.ensures.none request form)
+
+pub returns-in_default-clause-sums : goal.returns-in_default-clause-sums
+returns-in_default-clause-sums g c = λ request form. absurd (c.in_default.ensures.none request form)
+
+pub returns-clause-lists : goal.returns-clause-lists
+returns-clause-lists g c = λ files request told form.
+    subst (λ q. ListsWithin c.args.steps.now c.answer.new.steps q files (g.O.Sink.taken c.args.out.now) (g.O.Sink.taken c.answer.new.out) c.answer.result)
+    (c.owed_is_asked.ensures.form _ _ _ c.in-Some.ensures.form form) (c.answer.ensures.lists files told)
+
+pub returns-clause-sums : goal.returns-clause-sums
+returns-clause-sums g c = λ request form.
+    subst (λ q. MadeWithin c.args.steps.now c.answer.new.steps q c.answer.result) (c.owed_is_asked.ensures.form _ _ _ c.in-Some.ensures.form form) c.answer.ensures.sums
+
+pub returns-clause-formless : goal.returns-clause-formless
+returns-clause-formless g c = λ none. absurd (none (request_of c.in-Some.asked) c.in-Some.ensures.form)
+
+pub returns-clause-refused : goal.returns-clause-refused
+returns-clause-refused g c = λ files needed fault name told owes.
+    unrefused c.schemas_are_decided.ensures c.owed_is_asked.ensures.form _ files (request_of c.in-Some.asked) c.in-Some.ensures.form c.args.steps.now c.answer.new.steps
+    (c.answer.ensures.accepted files told) needed fault name owes
