@@ -1,5 +1,5 @@
 // Runs over a shelf and sinks in memory: the bytes, the fault line and the status.
-ghost use Rattle.std.specs.Prelude.{◌≡◌, ◌<◌};
+ghost use Rattle.std.specs.Prelude.{◌≡◌, ◌<◌, ◌≤◌};
 
 use list_command::{Outcome, run};
 use outside::{Calls, Files, MemShelf, MemSink, Steps};
@@ -62,15 +62,38 @@ impl Ending {
     }
 }
 
-/// A run over the files `f` and `c` with these bytes. The shelf gives one byte at a time, and fails at one call, where one is named.
+/// The call of each device that fails, if one does, and how many bytes a call moves at most.
+#[derive(Clone, Copy)]
+struct Devices {
+    shelf: Option<u64>,
+    out: Option<u64>,
+    err: Option<u64>,
+    read: usize,
+    piece: usize,
+    room: usize,
+}
+
+/// Devices of which no call fails, with ample room.
+const SOUND: Devices = Devices {
+    shelf: None,
+    out: None,
+    err: None,
+    read: 65_536,
+    piece: 65_536,
+    room: 65_536,
+};
+
+/// A run over the files `f` and `c` with these bytes.
 fn run_over(
     alloc: Global,
     words: &str,
     schema: &[u8],
     cursor: &[u8],
-    failing: Option<u64>,
-    room: usize,
-) -> Result<Ending, AllocError> {
+    devices: Devices,
+) -> Result<Ending, AllocError>
+    requires read { 1 ≤ devices.read }
+    requires piece { 1 ≤ devices.piece }
+{
     let words = words_of(alloc, words)?;
     let mut files = Files::new(alloc);
     let name = String::from_str(alloc, "f")?;
@@ -79,9 +102,14 @@ fn run_over(
     let name = String::from_str(alloc, "c")?;
     let bytes = Vec::from_slice(alloc, cursor)?;
     files.push(name, bytes)?;
-    let mut shelf = MemShelf::new(files, calls_of(alloc, failing)?, 1);
-    let mut out = MemSink::new(alloc, room, Calls::new(alloc), 65_536)?;
-    let mut err = MemSink::new(alloc, 100, Calls::new(alloc), 65_536)?;
+    let mut shelf = MemShelf::new(files, calls_of(alloc, devices.shelf)?, devices.read);
+    let mut out = MemSink::new(
+        alloc,
+        devices.room,
+        calls_of(alloc, devices.out)?,
+        devices.piece,
+    )?;
+    let mut err = MemSink::new(alloc, 100, calls_of(alloc, devices.err)?, 65_536)?;
     let blank = Blank::new(1);
     let outcome = counted::<Brand>(alloc, blank, &words, &mut shelf, &mut out, &mut err);
     Ok(Ending {
@@ -100,7 +128,7 @@ fn gives(
     out: &str,
     err: &str,
 ) -> Result<bool, AllocError> {
-    let ending = run_over(alloc, words, schema, b"", None, 65_536)?;
+    let ending = run_over(alloc, words, schema, b"", SOUND)?;
     Ok(ending.status == status && ending.wrote(out, err))
 }
 
@@ -114,14 +142,7 @@ fn gives_after(
     out: &str,
     err: &str,
 ) -> Result<bool, AllocError> {
-    let ending = run_over(
-        alloc,
-        words,
-        schema.as_bytes(),
-        cursor.as_bytes(),
-        None,
-        65_536,
-    )?;
+    let ending = run_over(alloc, words, schema.as_bytes(), cursor.as_bytes(), SOUND)?;
     Ok(ending.status == status && ending.wrote(out, err))
 }
 
@@ -499,46 +520,114 @@ fn cursor_limit(rt: HostRuntime) -> Result<(), AllocError> {
     Ok(())
 }
 
+const BOOK: &str =
+    "element addressBook { element card { element name { text }, element email { text } }* }";
+
+/// Its documents of at most four nodes: 17 lines, 67 bytes.
+const TWO_BOOKS: &str =
+    "(addressBook\n>\n)\n\n(addressBook\n>\n(card\n>\n(name\n>\n)\n(email\n>\n)\n)\n)\n\n";
+
+/// Whether the bytes are the first lines of a text, so many.
+fn are_lines(bytes: &[u8], text: &str, count: u64) -> bool {
+    let mut lines: u64 = 0;
+    for byte in bytes {
+        if *byte == b'\n' {
+            lines = lines.saturating_add(1);
+        }
+    }
+    let is_whole = bytes.is_empty() || bytes.ends_with(b"\n");
+    lines == count && is_whole && text.as_bytes().starts_with(bytes)
+}
+
+/// Whether the bytes are the first ones of a text, so many.
+fn are_bytes(bytes: &[u8], text: &str, count: u64) -> bool {
+    bytes.len() as u64 == count && text.as_bytes().starts_with(bytes)
+}
+
+// Each write for two documents: what was written before stands, and nothing behind it.
 #[test]
-fn failing_calls(rt: HostRuntime) -> Result<(), AllocError> {
+fn failing_writes(rt: HostRuntime) -> Result<(), AllocError> {
     let alloc = rt.alloc();
-    // An opening, a read for each of 19 bytes, and the read that finds the end.
-    for call in 0..21 {
-        let ending = run_over(
-            alloc,
-            "list 1 f",
-            SCHEMA.as_bytes(),
-            b"",
-            Some(call),
-            65_536,
-        )?;
-        assert!(rt; ending.status == 6 && ending.wrote("", "read\n"));
+    for call in 0..18 {
+        let devices = Devices {
+            out: Some(call),
+            piece: 1000,
+            ..SOUND
+        };
+        let ending = run_over(alloc, "list 4 f", BOOK.as_bytes(), b"", devices)?;
+        let status = if call == 17 { 0 } else { 7 };
+        assert!(rt; ending.status == status && are_lines(ending.out.taken(), TWO_BOOKS, call));
     }
-    let whole = run_over(alloc, "list 1 f", SCHEMA.as_bytes(), b"", Some(21), 65_536)?;
-    assert!(rt; whole.status == 0 && whole.wrote(TEXT, ""));
-    let cut = run_over(alloc, "list 1 f", SCHEMA.as_bytes(), b"", None, 3)?;
+    for call in 0..68 {
+        let devices = Devices {
+            out: Some(call),
+            piece: 1,
+            ..SOUND
+        };
+        let ending = run_over(alloc, "list 4 f", BOOK.as_bytes(), b"", devices)?;
+        let status = if call == 67 { 0 } else { 7 };
+        assert!(rt; ending.status == status && are_bytes(ending.out.taken(), TWO_BOOKS, call));
+    }
+    let devices = Devices { room: 3, ..SOUND };
+    let cut = run_over(alloc, "list 1 f", SCHEMA.as_bytes(), b"", devices)?;
     assert!(rt; cut.status == 7 && cut.wrote("(a\n", "write\n"));
-    // Then those for the cursor, of 8 bytes.
-    for call in 0..31 {
+    let devices = Devices {
+        err: Some(0),
+        ..SOUND
+    };
+    let silent = run_over(alloc, "list 1 f", b"element a {", b"", devices)?;
+    assert!(rt; silent.status == 3 && silent.wrote("", ""));
+    Ok(())
+}
+
+// Each call for a schema of 19 bytes, and for one of 30 and a cursor of 15: an opening, a read for each byte, and the one that finds the end.
+#[test]
+fn failing_reads(rt: HostRuntime) -> Result<(), AllocError> {
+    let alloc = rt.alloc();
+    for call in 0..21 {
+        let devices = Devices {
+            shelf: Some(call),
+            read: 1,
+            ..SOUND
+        };
+        let ending = run_over(alloc, "list 1 f", SCHEMA.as_bytes(), b"", devices)?;
+        assert!(rt; ending.status == 6 && ending.wrote("", "read\n"));
+    }
+    let devices = Devices {
+        shelf: Some(21),
+        read: 1,
+        ..SOUND
+    };
+    let whole = run_over(alloc, "list 1 f", SCHEMA.as_bytes(), b"", devices)?;
+    assert!(rt; whole.status == 0 && whole.wrote(TEXT, ""));
+    for call in 0..49 {
+        let devices = Devices {
+            shelf: Some(call),
+            read: 1,
+            ..SOUND
+        };
         let ending = run_over(
             alloc,
-            "resume 1 f c",
-            SCHEMA.as_bytes(),
-            TEXT.as_bytes(),
-            Some(call),
-            65_536,
+            "resume 3 f c",
+            CHAIN.as_bytes(),
+            TWO.as_bytes(),
+            devices,
         )?;
         assert!(rt; ending.status == 6 && ending.wrote("", "read\n"));
     }
+    let devices = Devices {
+        shelf: Some(49),
+        read: 1,
+        ..SOUND
+    };
     let resumed = run_over(
         alloc,
-        "resume 1 f c",
-        SCHEMA.as_bytes(),
-        TEXT.as_bytes(),
-        Some(31),
-        65_536,
+        "resume 3 f c",
+        CHAIN.as_bytes(),
+        TWO.as_bytes(),
+        devices,
     )?;
-    assert!(rt; resumed.status == 0 && resumed.wrote("", ""));
+    assert!(rt; resumed.status == 0 && resumed.wrote(THREE, ""));
     Ok(())
 }
 

@@ -1,7 +1,6 @@
 -- Lists of marks in words, and those beyond.
-use Rattle.std.proofs.Common.{◌≡◌, ℕ, zero, suc, ◌+◌, ◌-◌, ◌<◌, ◌≤◌, Bool, List, [], ◌∷◌, ◌++◌, length, length-append, map, take, get_or, set, refl, sym, ◌∙◌, ap, subst, arith}
+use Rattle.std.proofs.Common.{◌≡◌, ℕ, zero, suc, ◌+◌, ◌-◌, ◌<◌, ◌≤◌, Bool, List, [], ◌∷◌, ◌++◌, length, length-append, map, take, get_or, set, refl, sym, ◌∙◌, ap, arith}
 use Rattle.feasibility.specs.Bits.{AreParts, list_of}
-use Rattle.feasibility.proofs.Marking.{length-set_same}
 
 get_low : (ws ls : List (List Bool)) (i : ℕ) → i < length ws → get_or (ws ++ ls) i [] ≡ get_or ws i []
 get_low [] ls i l = absurd (omega (arith, l))

@@ -1,5 +1,5 @@
 -- A list of marks in its place among the others.
-use Rattle.std.proofs.Common.{◌≡◌, ℕ, zero, suc, ◌+◌, ◌<◌, ◌≤◌, ◌↔◌, Bool, IsTrue, Some, List, [], ◌∷◌, ◌++◌, length, length-append, get_or, set, slice_get, refl, sym, ◌∙◌, ap, subst, arith}
+use Rattle.std.proofs.Common.{◌≡◌, ℕ, zero, suc, ◌+◌, ◌<◌, ◌↔◌, Bool, IsTrue, Some, List, [], ◌∷◌, ◌++◌, length, length-append, set, slice_get, refl, sym, ◌∙◌, ap, subst, arith}
 use Rattle.feasibility.specs.declared.explorer.Explorer.{Explorer}
 use Rattle.feasibility.specs.Bits.{list_of}
 use Rattle.feasibility.specs.Exploring.{found}

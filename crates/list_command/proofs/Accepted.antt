@@ -1,6 +1,6 @@
 -- Where a schema is accepted, and what is so of the one that was read is so of it.
 use Rattle.std.proofs.Common.{◌≡◌, ◌⊎◌, inl, inr, ℕ, List, [], refl, sym, ◌∙◌, subst}
-use Rattle.std.specs.Prelude.{Option, Some, None}
+use Rattle.std.specs.Prelude.{Some}
 use Rattle.rng_model.specs.Texts.{Text}
 use Rattle.rng_model.specs.Patterns.{Schema}
 use Rattle.outside.specs.Devices.{Shelved, bytes_of}

@@ -1,6 +1,6 @@
 -- How many steps a listing over a table counts.
 use Rattle.std.proofs.Common.{◌≡◌, ℕ, ◌+◌, ◌*◌, ◌≤◌, List, ◌++◌, length, refl, ap, ap₂, sym, ◌∙◌, subst, arith}
-use Rattle.std.specs.Prelude.{Option, None, Some, Contains, ◌↔◌}
+use Rattle.std.specs.Prelude.{Option, None, Some}
 use Rattle.std.proofs.Math.Nat.{mul-le-mul_left}
 use Rattle.std.proofs.lemmas.List.{append_cancel_left}
 use Rattle.std.specs.List.{AllByRecursion}
@@ -122,7 +122,7 @@ module _ (old new : Table) (kept : Keeps old new) where
             (subst (λ a. s1 ≤ s0 + most_steps a (event_count (lists old)) states n count) (same_groups l x literals alike) h)
 
 -- the steps are those of the texts that were written whole
-pub written_whole : (texts : AreTextLaws) (a : Asked) (page taken taken_now : Option (List ℕ)) (x y each s : ℕ) → HasCost taken taken_now x y each s a page →
+pub written_whole : (texts : AreTextLaws) (a : Asked) (page : Option ℕ) (taken taken_now : Option (List ℕ)) (x y each s : ℕ) → HasCost taken taken_now x y each s a page →
     (before written : List ℕ) (count : ℕ) → taken ≡ Some before → taken_now ≡ Some (before ++ written) → HasTexts written count → s + x ≤ y + each * count
 written_whole texts a page taken taken_now x y each s h before written count is now has =
     let bytes : Appends (Some before) (Some (before ++ written)) (lines h.front ++ h.part) =
@@ -135,7 +135,7 @@ written_whole texts a page taken taken_now x y each s h before written count is 
 
 -- a listing over a table, from the cursor on if there is one
 module _ (texts : AreTextLaws) (old new : Table) (kept : Keeps old new) (g : Schema) (r : Request) (is : IsTableOf old g r) (are : IsTable new)
-    (n : ℕ) (after : Option Skeleton) (page taken taken_now : Option (List ℕ)) (s s0 s1 : ℕ) where
+    (n : ℕ) (after : Option Skeleton) (page : Option ℕ) (taken taken_now : Option (List ℕ)) (s s0 s1 : ℕ) where
   pub writing_within : (outcome : Outcome) → s ≤ s0 + old.spent + 6 * n →
       HasCost taken taken_now old.spent (s + group_total old * (old.limit + 1) + 3 * n + each_of old n * n) (each_of old n) s1 (asked_of old n after) page →
       (outcome ≡ Outcome.Done → (new.grown ≡ n) × HasCost taken taken_now old.spent (s + new.spent + 3 * n + each_of old n * n) (each_of old n) s1 (asked_of old n after) page) →

@@ -1,6 +1,5 @@
-use Rattle.std.proofs.Common.{◌≡◌, ◌≤◌, length, refl, sym, ◌∙◌, ap, arith, Some, None, true≢false}
+use Rattle.std.proofs.Common.{length, refl, sym, ◌∙◌, ap, arith, Some, None, true≢false}
 use Rattle.feasibility.specs.Bits.{list_of}
-use Rattle.feasibility.specs.Marking.{FinishesFirst, IsClosed}
 use Rattle.feasibility.proofs.Marking.{first_finishes, get_here, dead_end, free_less, mark_of, passes}
 use Rattle.feasibility.proofs.marks.finishes.Goals as goal
 

@@ -1,4 +1,4 @@
-use Rattle.std.proofs.Common.{◌+◌, ◌≤◌, arith}
+use Rattle.std.proofs.Common.{arith}
 use Rattle.std.specs.Prelude.{None}
 use Rattle.feasibility.specs.Tables.{lists}
 use Rattle.command_words.specs.Requests.{request_of}

@@ -1,4 +1,4 @@
-use Rattle.std.proofs.Common.{inl, inr, refl, subst}
+use Rattle.std.proofs.Common.{inr, refl, subst}
 use Rattle.command_words.specs.Requests.{request_of}
 use Rattle.list_command.specs.Owed.{Owes}
 use Rattle.list_command.specs.Runs.{EndsAsOwed}

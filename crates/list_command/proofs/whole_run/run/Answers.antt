@@ -16,3 +16,12 @@ returns-clause-no_fault g c = run_fault_or_none _ _ _ _ _ c.obey-outcome.result 
 pub returns-clause-whole : goal.returns-clause-whole
 returns-clause-whole g c =
     rw (← c.as_slice.ensures.value) (λ files told. c.fitting_runs_are_whole.ensures _ files _ _ _ _ _ _ _ (c.obey-outcome.ensures.owed files told))
+
+pub returns-clause-lists : goal.returns-clause-lists
+returns-clause-lists g c = rw (← c.as_slice.ensures.value) c.obey-outcome.ensures.lists
+
+pub returns-clause-sums : goal.returns-clause-sums
+returns-clause-sums g c = rw (← c.as_slice.ensures.value) c.obey-outcome.ensures.sums
+
+pub returns-clause-formless : goal.returns-clause-formless
+returns-clause-formless g c = rw (← c.as_slice.ensures.value) c.obey-outcome.ensures.formless

@@ -1,4 +1,4 @@
-use Rattle.std.proofs.Common.{◌≡◌, ◌∙◌}
+use Rattle.std.proofs.Common.{◌∙◌}
 use Rattle.feasibility.proofs.Columns.{count_is}
 use Rattle.feasibility.proofs.mark_words.MarkWords.count.Goals as goal
 

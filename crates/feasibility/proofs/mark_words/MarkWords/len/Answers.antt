@@ -1,4 +1,4 @@
-use Rattle.std.proofs.Common.{◌≡◌, ◌∙◌, sym, arith}
+use Rattle.std.proofs.Common.{◌∙◌, sym, arith}
 use Rattle.feasibility.proofs.Columns.{has_len, len_is, len_read}
 use Rattle.feasibility.proofs.mark_words.MarkWords.len.Goals as goal
 

@@ -1,4 +1,4 @@
-use Rattle.std.proofs.Common.{◌≡◌, ◌∙◌, Some, sym, ap, arith}
+use Rattle.std.proofs.Common.{◌∙◌, Some, sym, ap, arith}
 use Rattle.feasibility.proofs.Columns.{has_place, has_word, mark_is}
 use Rattle.feasibility.proofs.mark_words.MarkWords.mark.Goals as goal
 

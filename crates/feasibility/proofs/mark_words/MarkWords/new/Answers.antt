@@ -1,4 +1,4 @@
-use Rattle.std.proofs.Common.{◌≡◌, ℕ, List, [], ap}
+use Rattle.std.proofs.Common.{ℕ, List, ap}
 use Rattle.feasibility.specs.Bits.{columns}
 use Rattle.feasibility.proofs.mark_words.MarkWords.new.Goals as goal
 

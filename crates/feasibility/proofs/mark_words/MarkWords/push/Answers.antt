@@ -1,4 +1,4 @@
-use Rattle.std.proofs.Common.{◌≡◌, ◌≤◌, ◌∷◌, [], ◌++◌, Bool, List, set, sym, ◌∙◌, ap, get_or, arith}
+use Rattle.std.proofs.Common.{◌≡◌, ◌∷◌, [], ◌++◌, Bool, List, set, ◌∙◌, ap, arith}
 use Rattle.feasibility.specs.Bits.{columns, list_of}
 use Rattle.feasibility.proofs.Columns.{columns_held, has_len, has_place, len_read, list_grows, on_err, word_read}
 use Rattle.feasibility.proofs.mark_words.MarkWords.push.Goals as goal

@@ -1,5 +1,5 @@
-use Rattle.std.proofs.Common.{◌≡◌, ◌≤◌, Bool, ℕ, Vec, Global, List, length, map, take, sym, ◌∙◌, ap, subst, arith}
-use Rattle.feasibility.specs.Bits.{AreCut, columns}
+use Rattle.std.proofs.Common.{Bool, ℕ, Vec, Global, List, map, take, ◌∙◌, ap, arith}
+use Rattle.feasibility.specs.Bits.{columns}
 use Rattle.feasibility.proofs.Columns.{columns_are_cut}
 use Rattle.feasibility.proofs.mark_words.MarkWords.truncate.Goals as goal
 

@@ -1,4 +1,4 @@
-use Rattle.std.proofs.Common.{◌≡◌, ◌<◌, ◌≤◌, List, Bool, OnOk, length, set, sym, ◌∙◌, ap, subst, arith}
+use Rattle.std.proofs.Common.{◌≡◌, ◌≤◌, List, Bool, OnOk, length, set, sym, ◌∙◌, ap, subst, arith}
 use Rattle.feasibility.specs.Bits.{list_of}
 use Rattle.feasibility.specs.Marking.{AreMarks, AreRight, HasMarks, IsClosed, KeepsMarks, Stay, end_of}
 use Rattle.feasibility.proofs.Keeping.{keeps_set}

@@ -1,4 +1,4 @@
-use Rattle.std.proofs.Common.{◌≡◌, ◌+◌, ◌↔◌, IsTrue, List, Bool, length, refl, sym, subst}
+use Rattle.std.proofs.Common.{◌+◌, ◌↔◌, IsTrue, List, Bool, length, refl, sym, subst}
 use Rattle.feasibility.specs.declared.arc.Arc.{Arc}
 use Rattle.feasibility.specs.Bits.{list_of}
 use Rattle.feasibility.specs.Marking.{IsWithin, LeadsOn}
