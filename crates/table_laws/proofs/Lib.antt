@@ -16,4 +16,5 @@ pub mod Rooms
 pub mod Whole
 pub mod Nexts
 pub mod Samples
+pub mod SameRemainders
 pub mod OpeningRows

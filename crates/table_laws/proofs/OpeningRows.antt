@@ -7,10 +7,12 @@ use Rattle.rng_model.specs.Patterns.{Pattern, Schema, Definition, not_allowed, e
 use Rattle.rng_model.specs.Constructors.{choice_of, group_of, interleave_of, after_of}
 use Rattle.rng_model.specs.Matching.{nullable}
 use Rattle.rng_model.specs.Derivatives.{where_true, more, map_after, element_step, opening, attribute_step, text_step}
+use Rattle.std.specs.List.{Contains}
 use Rattle.derivative_laws.proofs.ChoiceLaw.{IsSome_of, choice_of-to, choice_of-from}
 use Rattle.table_laws.specs.Heads.{IsNormalChoice, IsLeaf, choices_of}
-use Rattle.table_laws.specs.Remainders.{Remainder, with_rest, if_nullable, remainders, entered, entered_at, takes_name}
+use Rattle.table_laws.specs.Remainders.{Remainder, AreSame, with_rest, if_nullable, remainders, entered, entered_at, takes_name}
 use Rattle.table_laws.proofs.Normal.{normal_choice, normal_nothing, normal_after, normal_where, normal_same, leaf_choice}
+use Rattle.table_laws.proofs.SameRemainders.{contains_none, contains_first, contains_later, contains_cases, same_refl}
 
 -- P holds of some member
 abbrev SomeIn : (Remainder → Type 0) → List Remainder → Type 0
@@ -45,6 +47,29 @@ module _ (P : Remainder → Type 0) where
   map_some f [] h = h
   map_some f (r ∷ rs) (inl h) = inl h
   map_some f (r ∷ rs) (inr h) = inr (map_some f rs h)
+
+  some_member : (rs : List Remainder) → SomeIn P rs → (r : Remainder) × Contains rs r × P r
+  some_member [] h = absurd h
+  some_member (t ∷ rs) (inl h) = (t, contains_first t rs, h)
+  some_member (t ∷ rs) (inr h) = later (some_member rs h)
+    where
+      later : (r : Remainder) × Contains rs r × P r → (r : Remainder) × Contains (t ∷ rs) r × P r
+      later (r, k, p) = (r, contains_later t rs r k, p)
+
+  member_some : (rs : List Remainder) (r : Remainder) → Contains rs r → P r → SomeIn P rs
+  member_some [] r h p = absurd (contains_none r h)
+  member_some (t ∷ rs) r h p = go (contains_cases t rs r h) (λ k. member_some rs r k p)
+    where
+      go : (t ≡ r) ⊎ Contains rs r → (Contains rs r → SomeIn P rs) → SomeIn P (t ∷ rs)
+      go (inl e) again = inl (subst P (sym e) p)
+      go (inr k) again = inr (again k)
+
+  -- of a list that has all of them
+  some_within : (xs ys : List Remainder) → ((r : Remainder) → Contains xs r → Contains ys r) → SomeIn P xs → SomeIn P ys
+  some_within xs ys h s = go (some_member xs s)
+    where
+      go : (r : Remainder) × Contains xs r × P r → SomeIn P ys
+      go (r, k, p) = member_some ys r (h r k) p
 
 -- what keeps notAllowed
 abbrev IsStrict : (Pattern → Pattern) → Type 0
@@ -265,11 +290,14 @@ normal_choices g n (r ∷ []) = normal_element n (slice_get g.elements r.number)
 normal_choices g n (r ∷ t ∷ rs) =
     normal_choice (entered_at g n r) (choices_of (map (entered_at g n) (t ∷ rs))) (normal_element n (slice_get g.elements r.number) r.rest) (normal_choices g n (t ∷ rs))
 
+pub opening_of : (g : Schema) (n : Name) (p : Pattern) (rs : List Remainder) → AreSame rs (remainders p) → opening g n p ≡ choices_of (map (entered_at g n) rs)
+opening_of g n p rs s =
+    normal_same (opening g n p) (choices_of (map (entered_at g n) rs)) (normal_opening g n p) (normal_choices g n rs)
+    (λ z l. (leaf_choices g n z rs).1 (some_within (λ r. IsLeaf z (entered_at g n r)) (remainders p) rs (λ r. (s r).1) ((top_opening g n z p).0 l)))
+    (λ z l. (top_opening g n z p).1 (some_within (λ r. IsLeaf z (entered_at g n r)) rs (remainders p) (λ r. (s r).0) ((leaf_choices g n z rs).0 l)))
+
 pub opening_is : (g : Schema) (n : Name) (p : Pattern) → opening g n p ≡ choices_of (map (entered_at g n) (remainders p))
-opening_is g n p =
-    normal_same (opening g n p) (choices_of (map (entered_at g n) (remainders p))) (normal_opening g n p) (normal_choices g n (remainders p))
-    (λ z l. (leaf_choices g n z (remainders p)).1 ((top_opening g n z p).0 l))
-    (λ z l. (top_opening g n z p).1 ((leaf_choices g n z (remainders p)).0 l))
+opening_is g n p = opening_of g n p (remainders p) (same_refl (remainders p))
 
 -- attribute names
 left_false : (a b : Bool) → (a || b) ≡ false → a ≡ false

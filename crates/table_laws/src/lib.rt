@@ -29,7 +29,7 @@ ghost use Rattle.table_laws.specs.Finishing.{Finish, is_marked, Marked, IsExact,
 ghost use Rattle.table_laws.specs.Walking.{GoesOn, IsFirstCode, IsNextCode, IsLeastRest, NothingAbove, IsNextList, AreListedCodes, IsFirst, IsNext, GoesThrough, IsWalk, AreOfSize};
 ghost use Rattle.table_laws.specs.Places.{place_after};
 ghost use Rattle.table_laws.specs.Heads.{IsNormalChoice, IsLeaf, HasHeads, choices_of, ending_fresh, IsInsideElements, open_elements};
-ghost use Rattle.table_laws.specs.Remainders.{remainders, entered_at, takes_name};
+ghost use Rattle.table_laws.specs.Remainders.{Remainder, AreSame, remainders, entered_at, takes_name};
 
 /// The start is reached, unless the schema allows nothing. Where m nodes reach a state, a code leads on with its own nodes, and
 /// more nodes reach what fewer do.
@@ -291,10 +291,13 @@ pub fn head_by_head()
 {}
 
 /// An opening is the choice of after(content, remainder) over what a pattern may open, whatever the name, where the name is in the
-/// definition's class. An attribute whose name a pattern can't take leads nowhere, whatever the text.
+/// definition's class. What it may open can stand in any order, and a pair can come more than once. An attribute whose name a pattern
+/// can't take leads nowhere, whatever the text.
 pub fn opening_rows_of_heads()
     ensures opening { (g : Schema) (n : Name) (p : Pattern) →
         opening g n p ≡ choices_of (map (entered_at g n) (remainders p)) }
+    ensures any_order { (g : Schema) (n : Name) (p : Pattern) (rs : List Remainder) → AreSame rs (remainders p) →
+        opening g n p ≡ choices_of (map (entered_at g n) rs) }
     ensures name { (n : Name) (s : Text) (p : Pattern) → takes_name n p ≡ false → attribute_step n s p ≡ not_allowed }
 {}
 
