@@ -1,9 +1,9 @@
 // Patterns without parts other than any text: each takes a whole text or none.
-ghost use Rattle.std.specs.Prelude.{◌≡◌, ◌<◌, IfSome};
+ghost use Rattle.std.specs.Prelude.{◌≡◌, ◌<◌, false, IfNone, IfSome};
 ghost use Rattle.rng_model.specs.Derivatives.{text_step, where_true};
 ghost use Rattle.rng_model.specs.Patterns as pattern;
 ghost use Rattle.pattern_intern.specs.Stored.{count, tree_at};
-ghost use Rattle.value_sets.specs.Taken.{test_takes};
+ghost use Rattle.value_sets.specs.Taken.{is_leaf, test_takes};
 
 use pattern_intern::{Node, PatternId, Pool};
 use text_atoms::{Kind, Text};
@@ -12,7 +12,8 @@ use text_atoms::{Kind, Text};
 #[tactic(auto, unfolding(rng_model::specs::Derivatives::text_step))]
 pub fn leaf_takes(pool: &Pool, text: &Text, id: PatternId) -> Option<bool>
     requires { id.0 < count pool.now }
-    ensures { IfSome result (λ taken. text_step text.now (tree_at pool.now id.0) ≡ where_true taken pattern.empty) }
+    ensures taken { IfSome result (λ taken. text_step text.now (tree_at pool.now id.0) ≡ where_true taken pattern.empty) }
+    ensures none { IfNone result (is_leaf (tree_at pool.now id.0) ≡ false) }
 {
     match pool.node(id) {
         Node::Value(kind, literal) => {
