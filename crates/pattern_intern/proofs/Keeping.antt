@@ -4,7 +4,7 @@ use Rattle.std.proofs.lemmas.List.{map-append}
 use Rattle.name_classes.specs.declared.class.NameClass.{NameClass}
 use Rattle.name_classes.specs.Views.{class_of}
 use Rattle.pattern_intern.specs.declared.id.PatternId.{PatternId}
-use Rattle.rng_model.specs.Patterns.{Schema, Definition, IsSimpleForm, HasNoAfter}
+use Rattle.rng_model.specs.Patterns.{IsSimpleForm}
 use Rattle.rng_model.specs.Patterns as pattern
 use Rattle.pattern_intern.proofs.Growing.{slice_get-push}
 use Rattle.pattern_intern.specs.Schemas.{Entry, AreBelow, HasRefsBelow, AreRefsBelow, AreWithin, IsSchema, definition_of, schema_of}
@@ -52,11 +52,3 @@ first_refs n = record { each = go }
     go (suc zero) l = tt
     go (suc (suc zero)) l = tt
     go (suc (suc (suc k))) l = absurd (omega (arith, l))
-
--- a schema of one element
-pub one_form : (s : Stored) (start : ℕ) (xs : List Entry) (x : Entry) → xs ≡ x ∷ [] → HasNoAfter (tree_at s start) → HasNoAfter (tree_at s x.1) → IsSimpleForm (schema_of s start xs)
-one_form s start xs x e h k = rw e record { start = h; contents = go }
-  where
-    go : (d : ℕ) (e : Definition) → slice_get (definition_of s x ∷ []) d ≡ Some e → HasNoAfter e.content
-    go zero e f = let same : definition_of s x ≡ e = cc in subst (λ y. HasNoAfter y.content) same k
-    go (suc d) e f = absurd (cc)

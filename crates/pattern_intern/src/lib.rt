@@ -21,6 +21,3 @@ pub use id::{ClassId, LiteralId, PatternId};
 pub use node::Node;
 pub use pool::Pool;
 pub use schema::{Definitions, Schema};
-
-#[cfg(test)]
-mod tests;

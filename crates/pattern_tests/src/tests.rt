@@ -4,8 +4,8 @@ ghost use Rattle.rng_model.specs.Patterns.{HasNoAfter};
 ghost use Rattle.pattern_intern.specs.Schemas.{AreRefsBelow};
 ghost use Rattle.pattern_intern.specs.Stored.{Extends, count, tree_at};
 
-use crate::{ContentType, Definitions, Node, PatternId, Pool, Schema};
 use name_classes::NameClass;
+use pattern_intern::{ContentType, Definitions, Node, PatternId, Pool, Schema};
 use std::alloc::{AllocError, Global};
 use text_atoms::Kind;
 
@@ -293,7 +293,7 @@ fn number(pool: &mut Pool) -> Result<PatternId, AllocError>
 }
 
 /// Elements with any name, whose contents are numbers that aren't 7.
-#[tactic(auto, using(crate::proofs::Keeping::one_form))]
+#[tactic(auto, using(crate::proofs::Schemas::one_form))]
 fn one_element(alloc: Global) -> Result<Schema, AllocError> {
     let mut pool = Pool::new(alloc)?;
     let content = number(&mut pool)?;

@@ -3,8 +3,8 @@ use Rattle.name_classes.specs.Views.{class_of}
 use Rattle.rng_model.specs.Patterns.{HasNoAfter}
 use Rattle.pattern_intern.specs.Schemas.{Entry}
 use Rattle.pattern_intern.specs.Stored.{tree_at}
-use Rattle.pattern_intern.proofs.Keeping.{one_form}
-use Rattle.pattern_intern.proofs.tests.one_element.Goals as goal
+use Rattle.pattern_tests.proofs.Schemas.{one_form}
+use Rattle.pattern_tests.proofs.tests.one_element.Goals as goal
 
 pub new-requires-2-clause-form : goal.new-requires-2-clause-form
 new-requires-2-clause-form c =
