@@ -9,6 +9,3 @@ mod value_set;
 
 pub use by_number::ValueSets;
 pub use leaf::leaf_takes;
-
-#[cfg(test)]
-mod tests;

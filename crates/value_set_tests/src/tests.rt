@@ -2,10 +2,10 @@
 ghost use Rattle.std.specs.Prelude.{◌<◌, IfOk};
 ghost use Rattle.pattern_intern.specs.Stored.{count};
 
-use crate::ValueSets;
 use pattern_intern::{PatternId, Pool};
 use std::alloc::AllocError;
 use text_atoms::{Kind, Text};
+use value_sets::ValueSets;
 
 /// The choice of a string, a token, an integer and the booleans.
 fn choice(pool: &mut Pool) -> Result<PatternId, AllocError>
