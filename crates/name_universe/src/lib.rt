@@ -18,6 +18,3 @@ pub use name_list::NameList;
 pub use origin::Origin;
 pub use overlaps::overlap;
 pub use universe::Universe;
-
-#[cfg(test)]
-mod tests;

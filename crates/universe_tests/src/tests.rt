@@ -1,11 +1,8 @@
 // Overlaps row by row, and the worked lists of names.
-use crate::mentions::{add_names, add_spaces};
-use crate::names::Names;
-use crate::origin::Origin;
-use crate::overlap;
 use name_classes::{Name, NameClass};
-use std::alloc::Global;
-use std::collections::BTreeSet;
+use name_universe::{Origin, Universe, overlap};
+use pattern_intern::{Definitions, Pool, Schema};
+use std::alloc::{AllocError, Global};
 use std::test::Fail;
 use text_atoms::Text;
 
@@ -34,22 +31,29 @@ fn do_overlap(alloc: Global, left: &str, right: &str) -> Result<bool, Fail> {
     Ok(overlap(&class(alloc, left)?, &class(alloc, right)?))
 }
 
-/// The list of one class, with one fresh name in each namespace.
-fn names_of(alloc: Global, kind: &str) -> Result<Names, Fail> {
-    let class = class(alloc, kind)?;
-    let mut names = BTreeSet::new(alloc);
-    let mut spaces = BTreeSet::new(alloc);
-    add_names(alloc, &mut names, &class)?;
-    add_spaces(alloc, &mut spaces, &class)?;
-    Ok(Names::of(alloc, names, spaces, 1)?)
+/// The universe of a schema whose one element has this class, with one fresh name in each namespace.
+#[tactic(auto, using(crate::proofs::Schemas::one_form))]
+fn universe_of(alloc: Global, class: NameClass) -> Result<Universe, AllocError> {
+    let pool = Pool::new(alloc)?;
+    let content = pool.empty();
+    let mut elements = Definitions::new(alloc);
+    elements.push(class, content)?;
+    let schema = Schema::new(pool, content, elements);
+    Universe::of(alloc, &schema, 1)
 }
 
-/// Whether the name at the position is this one, of this origin.
-fn is_at(names: &Names, position: usize, name: &Name, origin: Origin) -> bool {
-    position < names.list().len()
-        && names.list().get(position) == name
-        && names.origin(position) == origin
-        && names.find(name) == Some(position)
+/// The names for elements of one class, with one fresh name in each namespace.
+fn names_of(alloc: Global, kind: &str) -> Result<Universe, Fail> {
+    let class = class(alloc, kind)?;
+    Ok(universe_of(alloc, class)?)
+}
+
+/// Whether the name for elements at the position is this one, of this origin.
+fn is_at(names: &Universe, position: usize, name: &Name, origin: Origin) -> bool {
+    position < names.elements().len()
+        && names.elements().get(position) == name
+        && names.element_origin(position) == origin
+        && names.find_element(name) == Some(position)
 }
 
 #[test]
@@ -85,7 +89,7 @@ fn has(
 fn stands_at(alloc: Global, ns: &str, local: &str) -> Result<usize, Fail> {
     let names = names_of(alloc, "* - a")?;
     let name = name(alloc, ns, local)?;
-    Ok(names.stands_for(&name))
+    Ok(names.stands_for_element(&name))
 }
 
 #[test]
