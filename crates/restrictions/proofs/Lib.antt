@@ -6,7 +6,6 @@ pub mod Meeting
 pub mod Sharing
 pub mod Flags
 pub mod Outcomes
-pub mod Simple
 pub mod Words
 pub mod Windows
 pub mod Standings

@@ -32,6 +32,3 @@ pub fn broken(alloc: Global, schema: &Schema) -> Result<Option<Rule>, AllocError
     let known = describe_all(alloc, schema.pool())?;
     least_broken(alloc, schema, &universe, &known)
 }
-
-#[cfg(test)]
-mod tests;

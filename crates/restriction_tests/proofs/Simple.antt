@@ -1,5 +1,5 @@
 -- Patterns without After, whose references are below a number, and their schemas.
-use Rattle.std.proofs.Common.{◌≡◌, ◌≢◌, ℕ, zero, suc, ◌+◌, ◌<◌, ◌⊎◌, inl, inr, Some, None, List, [], ◌∷◌, map, slice_get, refl, sym, subst, arith}
+use Rattle.std.proofs.Common.{◌≡◌, ◌≢◌, ℕ, zero, suc, ◌+◌, ◌<◌, ◌⊎◌, inl, inr, Some, None, List, [], ◌∷◌, map, slice_get, refl, sym, ap, subst, arith}
 use Rattle.std.specs.Prelude.{⊤}
 use Rattle.pattern_intern.specs.declared.id.PatternId.{PatternId}
 use Rattle.rng_model.specs.Patterns.{Definition, HasNoAfter, IsSimpleForm}
@@ -8,7 +8,16 @@ use Rattle.pattern_intern.specs.Stored.{Stored, count, tree_at}
 use Rattle.pattern_intern.specs.Trees.{IsNode, PartsBelow, node_tree}
 use Rattle.pattern_intern.specs.declared.node.Node.{Node}
 use Rattle.pattern_intern.specs.declared.node.Node.TheVariants.{NotAllowed, Empty, AnyText, Ref, Value, DataType, Attribute, OneOrMore, Choice, Group, Interleave, After}
-use Rattle.restrictions.proofs.Numbers.{same_or}
+
+same_or : (i j : ℕ) → (i ≡ j) ⊎ (i ≢ j)
+same_or zero zero = inl refl
+same_or zero (suc j) = inr (λ e. cc)
+same_or (suc i) zero = inr (λ e. cc)
+same_or (suc i) (suc j) = go (same_or i j)
+  where
+    go : (i ≡ j) ⊎ (i ≢ j) → (suc i ≡ suc j) ⊎ (suc i ≢ suc j)
+    go (inl e) = inl (ap suc e)
+    go (inr n) = inr (λ e. n (cc))
 
 -- what may stand in a schema of m elements
 abbrev pub IsSimple : ℕ → Stored → ℕ → Type 0

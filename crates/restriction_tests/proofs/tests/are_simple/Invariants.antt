@@ -1,7 +1,7 @@
 -- The patterns before the next may stand in the schema.
 use Rattle.std.proofs.Common.{ℕ, ◌<◌}
-use Rattle.restrictions.proofs.Simple.{IsSimple}
-use Rattle.restrictions.proofs.tests.are_simple.Given as goal
+use Rattle.restriction_tests.proofs.Simple.{IsSimple}
+use Rattle.restriction_tests.proofs.tests.are_simple.Given as goal
 
 abbrev pub invariant-loop-id : goal.invariant-loop-id
 invariant-loop-id l = (i : ℕ) → i < l.id → IsSimple l.elements l.pool i

@@ -5,9 +5,9 @@ ghost use Rattle.rng_model.specs.Patterns.{HasNoAfter};
 ghost use Rattle.pattern_intern.specs.Schemas.{AreRefsBelow, AreWithin};
 ghost use Rattle.pattern_intern.specs.Stored.{count, tree_at};
 
-use crate::broken;
 use name_classes::{Name, NameClass};
 use pattern_intern::{Definitions, Node, PatternId, Pool, Schema};
+use restrictions::broken;
 use std::alloc::Global;
 use std::test::Fail;
 use text_atoms::{Kind, Text};
