@@ -3,6 +3,7 @@
 
 mod devices;
 mod file_shelf;
+mod first_line;
 mod lists;
 mod memory_shelf;
 mod memory_sink;

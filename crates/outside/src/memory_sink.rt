@@ -6,6 +6,7 @@ ghost use Rattle.outside.specs.Counts.{HasCause};
 ghost use Rattle.outside.specs.Memory.{after_writing, is_refused};
 
 use crate::devices::{Failed, Sink};
+use crate::first_line::first_line_len;
 use crate::lists::Calls;
 use std::alloc::{AllocError as OutOfMemory, Global};
 use std::marker::Model;
@@ -106,5 +107,15 @@ impl Sink for MemSink {
             return Err(Failed);
         }
         Ok(count)
+    }
+
+    fn write_lines(&mut self, lines: &[u8]) -> Result<(), Failed> {
+        let mut rest = lines;
+        while !rest.is_empty() {
+            let end = first_line_len(rest);
+            let count = self.write(&rest[..end])?;
+            rest = &rest[count..];
+        }
+        Ok(())
     }
 }

@@ -47,4 +47,12 @@ impl<W: Write + Drop> Sink for StdSink<W> {
         self.faults = self.faults.saturating_add(1);
         Err(Failed)
     }
+
+    fn write_lines(&mut self, lines: &[u8]) -> Result<(), Failed> {
+        if self.writer.write_all(lines).is_ok() {
+            return Ok(());
+        }
+        self.faults = self.faults.saturating_add(1);
+        Err(Failed)
+    }
 }

@@ -1,6 +1,7 @@
-// What no clause says: whole files from shelves that fail, a sink without room, and real files and streams.
+// What no clause says: whole files from shelves that fail, a sink without room, lines as pieces, and real files and streams.
 use crate::{
-    Calls, FileShelf, Files, MemShelf, MemSink, ReadAllFault, Shelf, StdSink, read_all, write_all,
+    Calls, FileShelf, Files, MemShelf, MemSink, ReadAllFault, Shelf, Sink, StdSink, read_all,
+    write_all,
 };
 use std::alloc::{AllocError, Global};
 use std::fs;
@@ -63,6 +64,41 @@ fn a_sink_without_room(rt: HostRuntime) -> Result<(), AllocError> {
     Ok(())
 }
 
+/// Whether lines are taken whole, or up to these bytes, where the write of this number fails and a write takes so many bytes.
+fn takes(
+    alloc: Global,
+    lines: &str,
+    failing: u64,
+    most: usize,
+    bytes: &str,
+) -> Result<bool, AllocError> {
+    let mut calls = Calls::new(alloc);
+    calls.push(failing)?;
+    let mut sink = MemSink::new(alloc, 100, calls, most.max(1))?;
+    let whole = sink.write_lines(lines.as_bytes()).is_ok();
+    Ok(whole == (lines == bytes) && sink.taken() == bytes.as_bytes())
+}
+
+#[test]
+fn lines_are_pieces(rt: HostRuntime) -> Result<(), AllocError> {
+    let alloc = rt.alloc();
+    // The lines, the number of the write that fails, counted from 0, how many bytes a write takes, and the bytes that are taken.
+    let rows = [
+        ("", 0, 100, ""),
+        ("a\n", 1, 100, "a\n"),
+        ("a\n\nbc\nd", 4, 100, "a\n\nbc\nd"),
+        ("a\n\nbc\nd", 3, 100, "a\n\nbc\n"),
+        ("a\n\nbc\nd", 1, 100, "a\n"),
+        ("a\n\nbc\nd", 0, 100, ""),
+        ("abc\nde\n", 4, 2, "abc\nde\n"),
+        ("abc\nde\n", 3, 2, "abc\nde"),
+    ];
+    for (lines, failing, most, bytes) in rows {
+        assert!(rt; takes(alloc, lines, failing, most, bytes)?);
+    }
+    Ok(())
+}
+
 #[test]
 fn real_files_and_streams(rt: HostRuntime) -> Result<(), AllocError> {
     let alloc = rt.alloc();
@@ -81,6 +117,7 @@ fn real_files_and_streams(rt: HostRuntime) -> Result<(), AllocError> {
     assert!(rt; fs::remove_file(&rt, "outside_test_file").is_ok());
     let mut sink = StdSink::new(rt.stderr());
     assert!(rt; write_all(&mut sink, b"text\n").is_ok());
+    assert!(rt; sink.write_lines(b"two\nlines\n").is_ok());
     assert!(rt; sink.flush().is_ok());
     Ok(())
 }
