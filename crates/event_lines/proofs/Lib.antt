@@ -7,3 +7,4 @@ pub mod Counting
 pub mod Schemas
 pub mod Ranges
 pub mod Spelling
+pub mod Keeping

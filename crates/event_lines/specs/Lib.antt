@@ -4,3 +4,4 @@ pub mod PieceLists
 pub mod Parts
 pub mod Coded
 pub mod Spelled
+pub mod Held

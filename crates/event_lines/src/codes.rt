@@ -27,8 +27,8 @@ fn is_in_range(code: Code, universe: &Universe, atoms: &Atoms) -> bool
     }
 }
 
-/// Whether each code's positions are below the lengths of the lists of names and atoms, which is the condition of `measure`, and with
-/// these lists' spellings of `write_codes`.
+/// Whether each code's positions are below the lengths of the lists of names and atoms, which is the condition of `measure`, and of
+/// `DocumentLines::write` where these lists were spelled.
 pub fn are_in_range(codes: &[Code], universe: &Universe, atoms: &Atoms) -> bool
     ensures { IsTrue result ↔ AreInRange (lists_of universe.now atoms.now) codes.now }
 {

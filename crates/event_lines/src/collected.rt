@@ -42,4 +42,12 @@ impl Sink for Collected {
         }
         Ok(piece.len())
     }
+
+    fn write_lines(&mut self, lines: &[u8]) -> Result<(), Failed> {
+        if self.bytes.extend_from_slice(lines).is_err() {
+            self.faults = self.faults.saturating_add(1);
+            return Err(Failed);
+        }
+        Ok(())
+    }
 }

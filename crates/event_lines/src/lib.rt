@@ -4,7 +4,10 @@
 mod codes;
 mod collected;
 mod counted;
+mod document_lines;
 mod escapes;
+mod held_lines;
+mod holding;
 mod line_buffer;
 mod lines;
 mod measuring;
@@ -16,12 +19,11 @@ mod writing;
 
 pub use codes::are_in_range;
 pub use counted::Measure;
-pub use line_buffer::LineBuffer;
+pub use document_lines::DocumentLines;
 pub use line_reader::{LineFault, read_skeleton};
 pub use measuring::measure;
-pub use spellings::Spellings;
 pub use universe::write_universe;
-pub use writing::{WriteFault, write_codes, write_name_line, write_skeleton, write_text_line};
+pub use writing::{WriteFault, write_name_line, write_skeleton, write_text_line};
 
 #[cfg(test)]
 mod tests;

@@ -1,5 +1,5 @@
 // A line in a fixed buffer.
-ghost use Rattle.std.specs.Prelude.{◌≡◌, ◌≤◌, ◌+◌, ◌-◌, ◌++◌, [], length};
+ghost use Rattle.std.specs.Prelude.{◌≡◌, ◌≤◌, ◌+◌, ◌-◌, ◌++◌, [], length, take};
 
 use std::marker::Model;
 
@@ -8,7 +8,7 @@ const CAPACITY: usize = 32_768;
 
 /// A line, or a part of a longer one, that is to be handed over as one piece. It holds 32,768 bytes.
 #[derive(Drop)]
-pub struct LineBuffer {
+pub(crate) struct LineBuffer {
     bytes: [u8; 32_768],
     len: usize,
 }
@@ -25,7 +25,7 @@ impl Model for LineBuffer {
 
 impl LineBuffer {
     /// An empty buffer.
-    pub fn new() -> Self
+    pub(crate) fn new() -> Self
         ensures { result ≡ [] }
     {
         LineBuffer {
@@ -49,6 +49,21 @@ impl LineBuffer {
         let end = self.len + bytes.len();
         self.bytes[self.len..end].copy_from_slice(bytes);
         self.len = end;
+    }
+
+    /// Drops the bytes behind the first ones.
+    pub(crate) fn truncate(&mut self, len: usize)
+        requires { len ≤ length self.old }
+        ensures { self.new ≡ take len self.old }
+    {
+        self.len = len;
+    }
+
+    /// How many bytes it holds.
+    pub(crate) fn len(&self) -> usize
+        ensures { result ≡ length self.now }
+    {
+        self.len
     }
 
     /// Drops all bytes.

@@ -8,7 +8,7 @@ use name_universe::Universe;
 use skeleton::Code;
 use text_atoms::Atoms;
 
-/// The measure of the bytes that `write_codes` appends, under its condition. No memory is taken.
+/// The measure of the bytes that `DocumentLines::write` appends, under its condition. No memory is taken.
 pub fn measure(codes: &[Code], universe: &Universe, atoms: &Atoms) -> Measure
     requires { AreInRange (lists_of universe.now atoms.now) codes.now }
     ensures { (es : List Event) → AreCodesOf (lists_of universe.now atoms.now) es codes.now → IsMeasure result (events_text es) }

@@ -15,8 +15,8 @@ use outside::Failed;
 use std::alloc::{AllocError, Global};
 use text_atoms::{Atoms, Text};
 
-/// The lines of the names and texts of a universe and its atoms, spelled once for many calls of `write_codes`: for each element name the
-/// line of its opening, for each attribute name the front of its line, and for each atom its line as a text.
+/// The lines of the names and texts of a universe and its atoms, spelled once for many documents: for each element name the line of
+/// its opening, for each attribute name the front of its line, and for each atom its line as a text.
 #[derive(Drop)]
 pub struct Spellings {
     openings: PieceList,

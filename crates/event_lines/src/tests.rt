@@ -1,7 +1,7 @@
-// The text of a skeleton, and how many pieces it is handed over in.
+// The text of a skeleton, how many pieces it is handed over in, and documents one after the other.
 use crate::{
-    LineBuffer, Measure, Spellings, are_in_range, measure, read_skeleton, write_codes,
-    write_name_line, write_skeleton, write_text_line,
+    DocumentLines, Measure, are_in_range, measure, read_skeleton, write_name_line, write_skeleton,
+    write_text_line,
 };
 use name_classes::{Name, NameClass};
 use name_universe::Universe;
@@ -131,13 +131,12 @@ fn coded(
 ) -> Result<Option<Measure>, Fail> {
     let universe = universe(alloc)?;
     let atoms = Atoms::of(alloc, &Literals::new(alloc), &TextList::new(alloc))?;
-    let spellings = Spellings::of(alloc, &universe, &atoms)?;
+    let mut lines = DocumentLines::of(alloc, &universe, &atoms)?;
     let mut sink = sink(alloc, failing, 1000)?;
     if !are_in_range(codes, &universe, &atoms) {
         return Ok(None);
     }
-    let mut buffer = LineBuffer::new();
-    let done = write_codes(codes, &spellings, &mut buffer, &mut sink).is_ok();
+    let done = lines.write(codes, &mut sink).is_ok();
     let measure = measure(codes, &universe, &atoms);
     Ok(Some(measure).filter(|_| done && sink.taken() == bytes))
 }
@@ -161,5 +160,129 @@ fn codes(rt: HostRuntime) -> Result<(), Fail> {
     assert!(rt; coded(alloc, &all, 6, bytes)?.is_some());
     assert!(rt; coded(alloc, &all, 5, bytes)?.is_none());
     assert!(rt; coded(alloc, &[Code::Chars(1)], 2, bytes)?.is_none());
+    Ok(())
+}
+
+/// The line of a code over these names, the text `t` and a long text whose line is given.
+fn line_of<'a>(code: Code, long: &'a str) -> &'a str {
+    match code {
+        Code::Opening(_) => "(a\n",
+        Code::Attr(_, _) => "A{urn:x}x t\n",
+        Code::Body => ">\n",
+        Code::Chars(0) => "-t\n",
+        Code::Chars(_) => long,
+        Code::Closing => ")\n",
+    }
+}
+
+/// Adds a line, unless it is the piece that fails.
+fn add_line(
+    wanted: &mut Vec<u8>,
+    line: &str,
+    pieces: &mut u64,
+    failing: u64,
+) -> Result<bool, Fail> {
+    let fails = *pieces == failing;
+    *pieces = pieces.wrapping_add(1);
+    if !fails {
+        wanted.extend_from_slice(line.as_bytes())?;
+    }
+    Ok(!fails)
+}
+
+/// Adds the lines of codes, and an empty line, up to the piece that fails. False where there is one.
+fn add_lines(
+    wanted: &mut Vec<u8>,
+    codes: &[Code],
+    long: &str,
+    pieces: &mut u64,
+    failing: u64,
+) -> Result<bool, Fail> {
+    for code in codes {
+        if !add_line(wanted, line_of(*code, long), pieces, failing)? {
+            return Ok(false);
+        }
+    }
+    add_line(wanted, "\n", pieces, failing)
+}
+
+/// Whether the documents, written one after the other, are taken line by line, where the piece of this number, counted from 0, fails.
+fn in_turn(alloc: Global, documents: &[&[Code]], failing: u64) -> Result<bool, Fail> {
+    let characters = "y".repeat(alloc, 1000)?;
+    let long = format!(in alloc; "-{characters}\n")?;
+    let mut extra = TextList::new(alloc);
+    extra.push(Text::from_string(characters))?;
+    let universe = universe(alloc)?;
+    let atoms = Atoms::of(alloc, &Literals::new(alloc), &extra)?;
+    let mut lines = DocumentLines::of(alloc, &universe, &atoms)?;
+    let mut calls = Calls::new(alloc);
+    calls.push(failing)?;
+    let mut sink = MemSink::new(alloc, 400_000, calls, 40_000)?;
+    let mut wanted = Vec::new(alloc);
+    let mut pieces = 0;
+    for codes in documents {
+        if !are_in_range(codes, &universe, &atoms) {
+            return Ok(false);
+        }
+        let whole = add_lines(&mut wanted, codes, long.as_str(), &mut pieces, failing)?;
+        let done = lines.write(codes, &mut sink).is_ok();
+        if done != whole || sink.taken() != wanted.as_slice() {
+            return Ok(false);
+        }
+    }
+    Ok(true)
+}
+
+#[test]
+fn documents_in_turn(rt: HostRuntime) -> Result<(), Fail> {
+    let alloc = rt.alloc();
+    let empty = [Code::Opening(0), Code::Body, Code::Closing];
+    let attribute = [
+        Code::Opening(0),
+        Code::Attr(0, 0),
+        Code::Body,
+        Code::Closing,
+    ];
+    let text = [
+        Code::Opening(0),
+        Code::Attr(0, 0),
+        Code::Body,
+        Code::Chars(0),
+        Code::Closing,
+    ];
+    let front = [Code::Opening(0), Code::Attr(0, 0), Code::Body];
+    let longer = [Code::Opening(0), Code::Body, Code::Closing, Code::Closing];
+    let long_text = [Code::Opening(0), Code::Body, Code::Chars(1), Code::Closing];
+    // More bytes than are held, as many codes, and more codes.
+    let long_lines = [Code::Chars(1); 40];
+    let most_codes = [Code::Body; 256];
+    let more_codes = [Code::Body; 257];
+    let documents = [
+        empty.as_slice(),
+        attribute.as_slice(),
+        text.as_slice(),
+        front.as_slice(),
+        text.as_slice(),
+        empty.as_slice(),
+        longer.as_slice(),
+        [].as_slice(),
+        longer.as_slice(),
+        long_text.as_slice(),
+        long_lines.as_slice(),
+        long_text.as_slice(),
+        most_codes.as_slice(),
+        more_codes.as_slice(),
+        more_codes.as_slice(),
+        long_lines.as_slice(),
+        long_lines.as_slice(),
+        text.as_slice(),
+        text.as_slice(),
+    ];
+    // No piece fails; then one of the first documents, of the long ones, and of the last.
+    for failing in [
+        10_000, 0, 4, 6, 9, 15, 60, 75, 90, 95, 330, 360, 604, 900, 955,
+    ] {
+        assert!(rt; in_turn(alloc, &documents, failing)?);
+    }
     Ok(())
 }

@@ -1,22 +1,16 @@
 // The text of a skeleton, and single lines.
-ghost use Rattle.std.specs.Prelude.{◌≡◌, ◌<◌, is_some, List, OnOk, OnErr};
+ghost use Rattle.std.specs.Prelude.{◌≡◌, ◌<◌, is_some, OnOk, OnErr};
 ghost use Rattle.std.specs.Io.KnownBytes.{Appends};
 ghost use Rattle.outside.specs.Counts.{HasCause};
 ghost use Rattle.outside.specs.Devices.{AppendsFront};
-ghost use Rattle.rng_model.specs.Events.{Event};
 ghost use Rattle.rng_model.specs.Lines.{skeleton_text};
-ghost use Rattle.rng_model.specs.Universe.{Lists};
 ghost use Rattle.event_lines.specs.Parts.{name_line, text_line};
-ghost use Rattle.event_lines.specs.Coded.{AreCodesOf, events_text};
-ghost use Rattle.event_lines.specs.Spelled.{AreSpellings, AreSpelled};
 
-use crate::codes::put_codes;
 use crate::line_buffer::LineBuffer;
 use crate::lines::{put_events, put_name_line, put_text_line};
-use crate::spellings::Spellings;
 use name_classes::Name;
 use outside::{Failed, Sink};
-use skeleton::{Code, Skeleton};
+use skeleton::Skeleton;
 use text_atoms::Text;
 use thiserror::Error;
 
@@ -35,30 +29,6 @@ pub fn write_skeleton<O: Sink>(skeleton: &Skeleton, sink: &mut O) -> Result<(), 
 {
     let mut buffer = LineBuffer::new();
     match put_events(&mut buffer, sink, skeleton.events()) {
-        Ok(()) => Ok(()),
-        Err(Failed) => Err(WriteFault),
-    }
-}
-
-/// Appends the lines of the events that the codes are by position in the lists whose spellings are given, and an empty line: where the
-/// events are a skeleton's, this is its text. It is handed over as by `write_skeleton`, an attribute's line through the caller's buffer.
-/// Spellings and buffer are made once for many calls; what the buffer holds before a call doesn't matter. No memory is taken.
-pub fn write_codes<O: Sink>(
-    codes: &[Code],
-    spellings: &Spellings,
-    buffer: &mut LineBuffer,
-    sink: &mut O,
-) -> Result<(), WriteFault>
-    requires { AreSpelled spellings.now codes.now }
-    ensures ok { (u : Lists) (es : List Event) → AreSpellings u spellings.now → AreCodesOf u es codes.now →
-        OnOk result (Appends (O.taken sink.old) (O.taken sink.new) (events_text es)) }
-    ensures err { (u : Lists) (es : List Event) → AreSpellings u spellings.now → AreCodesOf u es codes.now →
-        OnErr result (AppendsFront (O.taken sink.old) (O.taken sink.new) (events_text es)) }
-    ensures told { is_some (O.taken sink.new) ≡ is_some (O.taken sink.old) }
-    ensures cause { HasCause (O.faults sink.old) (O.faults sink.new) result }
-{
-    buffer.clear();
-    match put_codes(buffer, sink, codes, spellings) {
         Ok(()) => Ok(()),
         Err(Failed) => Err(WriteFault),
     }
