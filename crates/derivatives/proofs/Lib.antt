@@ -3,8 +3,11 @@ pub mod Keeping
 pub mod Joining
 pub mod Nodes
 pub mod Choicewise
-pub mod Opened
 pub mod Turns
 pub mod Untaken
 pub mod Accepting
 pub mod KeepingTexts
+pub mod Adding
+pub mod RemainderSets
+pub mod Gathered
+pub mod Entering

@@ -6,3 +6,4 @@ pub mod Spines
 pub mod Grown
 pub mod Takes
 pub mod Visits
+pub mod Remainders

@@ -1,15 +1,19 @@
 //! Derivatives of patterns by the pieces of a document (Clark's algorithm for RELAX NG validation), over numbered patterns.
 //!
-//! Openings, texts, attributes and ends of tags keep their results for each number within a step, so they visit a pattern once that stands
-//! in several places. What follows an element is grown, and an element ended, without such results.
+//! Texts, attributes and ends of tags keep their results for each number within a step, so they visit a pattern once that stands in
+//! several places. An element is ended without such results. What a pattern may open is kept for each number, for all names.
 #![tactic(auto)]
 
 mod attribute;
 mod closing;
+mod gathering;
 mod grow;
 mod more;
 mod name_taken;
 mod opening;
+mod remainder;
+mod remainder_set;
+mod remainder_sets;
 mod results;
 mod sides;
 mod spine;

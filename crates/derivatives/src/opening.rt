@@ -1,142 +1,101 @@
 // What may follow the opening of an element.
-ghost use Rattle.std.specs.Prelude.{◌≡◌, ◌<◌, IfOk, length, slice_get};
-ghost use Rattle.rng_model.specs.Derivatives.{element_step, opening};
-ghost use Rattle.rng_model.specs.Patterns.{choice};
+ghost use Rattle.std.specs.Prelude.{◌≡◌, ◌<◌, All, IfOk, IsSome, OnOk, map};
+ghost use Rattle.rng_model.specs.Constructors.{choice_of};
+ghost use Rattle.rng_model.specs.Derivatives.{opening};
+ghost use Rattle.table_laws.specs.Heads.{choices_of};
+ghost use Rattle.table_laws.specs.Remainders.{entered_at};
 ghost use Rattle.pattern_intern.specs.Stored.{Extends, count, tree_at};
-ghost use Rattle.derivatives.specs.Kept.{AreRight};
+ghost use Rattle.derivatives.specs.Remainders.{AreSets, IsWithin, remainder_of, remainders_of, set_of};
 
-use crate::grow::{Grow, grow_each};
-use crate::more::more;
-use crate::results::Results;
-use crate::spine::spine;
+use crate::gathering::make_set;
+use crate::remainder::Remainder;
+use crate::remainder_sets::RemainderSets;
 use name_classes::Name;
-use pattern_intern::{Node, PatternId, Schema};
+use pattern_intern::{PatternId, Schema};
 use std::alloc::AllocError;
+use table_laws::opening_rows_of_heads;
 
-/// What may follow the opening of an element of this name, with results kept by number.
-#[cycle(opens)]
-#[tactic(auto, using(crate::proofs::Keeping::right_put))]
+/// What may follow the opening of an element of this name. The pattern's remainders are kept for all names.
 pub(crate) fn opening(
     schema: &mut Schema,
-    kept: &mut Results,
+    sets: &mut RemainderSets,
     name: &Name,
     id: PatternId,
 ) -> Result<PatternId, AllocError>
     requires inside { id.0 < count schema.old.pool }
-    requires right { AreRight (opening schema.old.schema name.now) schema.old.pool kept.old }
+    requires sets { AreSets schema.old sets.old }
     ensures within { IfOk result (λ r. r.0 < count schema.new.pool) }
     ensures made { IfOk result (λ r. tree_at schema.new.pool r.0 ≡ opening schema.old.schema name.now (tree_at schema.old.pool id.0)) }
     ensures kept { Extends schema.old.pool schema.new.pool }
-    ensures right { AreRight (opening schema.old.schema name.now) schema.new.pool kept.new }
+    ensures sets { AreSets schema.new sets.new }
     ensures schema { schema.new.schema ≡ schema.old.schema }
 {
-    match kept.get(id) {
-        Some(known) => Ok(known),
-        None => {
-            let made = opening_of(schema, kept, name, id)?;
-            kept.put(id, made)?;
-            Ok(made)
-        }
-    }
+    opening_rows_of_heads();
+    find_set(schema, sets, id)?;
+    entered(schema, name, sets.get(id))
 }
 
-// The same, from the parts.
-#[cycle(opens)]
-#[tactic(auto, using(crate::proofs::Keeping::right_extends), unfolding(rng_model::specs::Derivatives::opening))]
-fn opening_of(
-    schema: &mut Schema,
-    kept: &mut Results,
-    name: &Name,
-    id: PatternId,
-) -> Result<PatternId, AllocError>
+// Makes the set of a number, where it isn't kept. All sets are forgotten before, where too many are kept.
+fn find_set(schema: &mut Schema, sets: &mut RemainderSets, id: PatternId) -> Result<(), AllocError>
     requires inside { id.0 < count schema.old.pool }
-    requires right { AreRight (opening schema.old.schema name.now) schema.old.pool kept.old }
-    ensures within { IfOk result (λ r. r.0 < count schema.new.pool) }
-    ensures made { IfOk result (λ r. tree_at schema.new.pool r.0 ≡ opening schema.old.schema name.now (tree_at schema.old.pool id.0)) }
+    requires sets { AreSets schema.old sets.old }
+    ensures made { OnOk result (IsSome (set_of sets.new id)) }
     ensures kept { Extends schema.old.pool schema.new.pool }
-    ensures right { AreRight (opening schema.old.schema name.now) schema.new.pool kept.new }
+    ensures sets { AreSets schema.new sets.new }
     ensures schema { schema.new.schema ≡ schema.old.schema }
 {
-    schema.holds();
-    match schema.pool().node(id) {
-        Node::Ref(element) => entered(schema, name, element),
-        Node::OneOrMore(content) => {
-            let opened = opening(schema, kept, name, content)?;
-            let again = more(schema, content)?;
-            grow_each(schema, opened, Grow::InGroup(again))
-        }
-        Node::Choice(first, others) => { opening_of_members(schema, kept, name, id, first, others) }
-        Node::Group(first, second) => {
-            let opened = opening(schema, kept, name, first)?;
-            let before = grow_each(schema, opened, Grow::InGroup(second))?;
-            schema.holds();
-            if schema.pool().nullable(first) {
-                let after = opening(schema, kept, name, second)?;
-                schema.choice(before, after)
-            } else {
-                Ok(before)
-            }
-        }
-        Node::Interleave(first, second) => {
-            let opened = opening(schema, kept, name, first)?;
-            let left = grow_each(schema, opened, Grow::Before(second))?;
-            let opened = opening(schema, kept, name, second)?;
-            let right = grow_each(schema, opened, Grow::Behind(first))?;
-            schema.choice(left, right)
-        }
-        Node::After(inside, behind) => {
-            let opened = opening(schema, kept, name, inside)?;
-            grow_each(schema, opened, Grow::InAfter(behind))
-        }
-        Node::DataType(_, None) => Ok(schema.pool().not_allowed()),
-        Node::DataType(_, Some(_)) => Ok(schema.pool().not_allowed()),
-        _ => Ok(schema.pool().not_allowed()),
+    if sets.has(id) {
+        return Ok(());
     }
+    let is_empty = sets.make_room();
+    make_set(schema, sets, id)?;
+    if is_empty {
+        sets.widen();
+    }
+    Ok(())
 }
 
-// The choice of what may follow for each member of the choice of two patterns.
-#[cycle(opens)]
-fn opening_of_members(
+// The choice of what is entered by a name, joined from the last remainder on.
+fn entered(
     schema: &mut Schema,
-    kept: &mut Results,
     name: &Name,
-    id: PatternId,
-    first: PatternId,
-    others: PatternId,
+    remainders: &[Remainder],
 ) -> Result<PatternId, AllocError>
-    requires inside { id.0 < count schema.old.pool }
-    requires right { AreRight (opening schema.old.schema name.now) schema.old.pool kept.old }
-    requires first { first.0 < id.0 }
-    requires others { others.0 < id.0 }
-    requires tree { tree_at schema.old.pool id.0 ≡ choice (tree_at schema.old.pool first.0) (tree_at schema.old.pool others.0) }
+    requires { All (IsWithin schema.old) remainders.now }
     ensures within { IfOk result (λ r. r.0 < count schema.new.pool) }
-    ensures made { IfOk result (λ r. tree_at schema.new.pool r.0 ≡ opening schema.old.schema name.now (tree_at schema.old.pool id.0)) }
+    ensures made { IfOk result (λ r. tree_at schema.new.pool r.0 ≡ choices_of (map (entered_at schema.old.schema name.now) (remainders_of schema.old.pool remainders.now))) }
     ensures kept { Extends schema.old.pool schema.new.pool }
-    ensures right { AreRight (opening schema.old.schema name.now) schema.new.pool kept.new }
     ensures schema { schema.new.schema ≡ schema.old.schema }
 {
-    let (mut firsts, last) = spine(schema.pool(), id, first, others)?;
-    let mut made = opening(schema, kept, name, last)?;
-    while let Some(member) = firsts.pop() {
-        let opened = opening(schema, kept, name, member)?;
-        made = schema.choice(opened, made)?;
+    let mut made = schema.pool().not_allowed();
+    let mut next = remainders.len();
+    while next > 0 {
+        next -= 1;
+        made = entered_before(schema, name, remainders[next], made)?;
     }
     Ok(made)
 }
 
-// The content of an element definition, if its class has the name, and then nothing.
-fn entered(schema: &mut Schema, name: &Name, element: usize) -> Result<PatternId, AllocError>
-    requires { element < length schema.old.schema.elements }
+// What is entered by a name, or else the others: the content of the definition and then the rest, where the name is in its class.
+fn entered_before(
+    schema: &mut Schema,
+    name: &Name,
+    remainder: Remainder,
+    others: PatternId,
+) -> Result<PatternId, AllocError>
+    requires remainder { IsWithin schema.old remainder }
+    requires others { others.0 < count schema.old.pool }
     ensures within { IfOk result (λ r. r.0 < count schema.new.pool) }
-    ensures made { IfOk result (λ r. tree_at schema.new.pool r.0 ≡ element_step name.now (slice_get schema.old.schema.elements element)) }
+    ensures made { IfOk result (λ r. tree_at schema.new.pool r.0 ≡ choice_of (entered_at schema.old.schema name.now (remainder_of schema.old.pool remainder)) (tree_at schema.old.pool others.0)) }
     ensures kept { Extends schema.old.pool schema.new.pool }
     ensures schema { schema.new.schema ≡ schema.old.schema }
 {
-    if schema.element_class(element).contains(name) {
-        let content = schema.element_content(element);
-        let empty = schema.pool().empty();
-        schema.after(content, empty)
+    schema.holds();
+    if schema.element_class(remainder.definition).contains(name) {
+        let content = schema.element_content(remainder.definition);
+        let opened = schema.after(content, remainder.rest)?;
+        schema.choice(opened, others)
     } else {
-        Ok(schema.pool().not_allowed())
+        Ok(others)
     }
 }

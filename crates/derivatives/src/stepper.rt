@@ -15,6 +15,7 @@ ghost use Rattle.derivatives.specs.Steps.{Decides, IsNext, Keeps, LeadsTo, Leads
 use crate::attribute::attribute_step;
 use crate::closing::{close, ending, fresh_ending};
 use crate::opening::opening;
+use crate::remainder_sets::RemainderSets;
 use crate::results::Results;
 use crate::states::{Place, State};
 use crate::text::text_step;
@@ -39,8 +40,8 @@ fn is_not_allowed(pool: &Pool, id: PatternId) -> bool
 }
 
 /// A schema with its universe and atoms, over which codes lead from state to state. Its pool grows with each step. The functions'
-/// results within a step stand in tables that are cleared at the next; what patterns are after a tag and what choices take of texts is
-/// kept for all steps.
+/// results within a step stand in tables that are cleared at the next. What patterns are after a tag and what choices take of texts is
+/// kept for all steps, and so is what patterns may open, whatever the name, until that is too much.
 #[derive(Drop)]
 pub struct Derivatives {
     schema: Schema,
@@ -49,6 +50,7 @@ pub struct Derivatives {
     kept: Results,
     texts: TextResults,
     closed: Results,
+    openings: RemainderSets,
 }
 
 impl Model for Derivatives {
@@ -57,6 +59,7 @@ impl Model for Derivatives {
     ghost use Rattle.rng_model.specs.Derivatives.{close};
     ghost use Rattle.value_sets.specs.Numbers.{AreSets};
     ghost use Rattle.derivatives.specs.Kept.{AreRight};
+    ghost use Rattle.derivatives.specs.Remainders.{AreSets as AreRemainderSets};
     ghost use Rattle.derivatives.specs.Views.{Machine, machine};
 
     ghost Value = { Machine };
@@ -65,7 +68,7 @@ impl Model for Derivatives {
 
     ghost view = { λ d. machine d.schema d.universe d.atoms };
 
-    ghost invariant = { λ d. AreRight close d.schema.pool d.closed × AreSets d.schema.pool d.texts.choices };
+    ghost invariant = { λ d. AreRight close d.schema.pool d.closed × AreSets d.schema.pool d.texts.choices × AreRemainderSets d.schema d.openings };
 }
 
 impl Derivatives {
@@ -81,6 +84,7 @@ impl Derivatives {
             kept: Results::new(alloc),
             texts: TextResults::new(alloc),
             closed: Results::new(alloc),
+            openings: RemainderSets::new(alloc),
         }
     }
 
@@ -243,7 +247,7 @@ impl Derivatives {
     }
 
     // After the end of a tag.
-    #[tactic(auto, using(crate::proofs::KeepingTexts::sets_extend))]
+    #[tactic(auto, using(crate::proofs::KeepingTexts::sets_extend, crate::proofs::RemainderSets::remainder_sets_extend))]
     fn body(&mut self, state: State) -> Result<Option<State>, AllocError>
         requires { state.pattern.0 < count self.old.numbered.pool }
         ensures some { IfOk result (λ r. IfSome r (λ t. IsNext self.old self.new state Body t)) }
@@ -312,13 +316,12 @@ impl Derivatives {
             (slice_index_or (lists self.old).elements name no_name) (tree_at self.old.numbered.pool pattern.0)) }
         ensures keeps { Keeps self.old self.new }
     {
-        self.kept.clear();
         let name = self.universe.elements().get(name);
-        opening(&mut self.schema, &mut self.kept, name, pattern)
+        opening(&mut self.schema, &mut self.openings, name, pattern)
     }
 
     // What may follow an attribute.
-    #[tactic(auto, using(crate::proofs::Keeping::right_extends, crate::proofs::KeepingTexts::sets_extend))]
+    #[tactic(auto, using(crate::proofs::Keeping::right_extends, crate::proofs::KeepingTexts::sets_extend, crate::proofs::RemainderSets::remainder_sets_extend))]
     fn attributed(
         &mut self,
         pattern: PatternId,
@@ -349,7 +352,7 @@ impl Derivatives {
     }
 
     // What may follow a text.
-    #[tactic(auto, using(crate::proofs::Keeping::right_extends, crate::proofs::KeepingTexts::sets_extend))]
+    #[tactic(auto, using(crate::proofs::Keeping::right_extends, crate::proofs::KeepingTexts::sets_extend, crate::proofs::RemainderSets::remainder_sets_extend))]
     fn said(&mut self, pattern: PatternId, text: usize) -> Result<PatternId, AllocError>
         requires inside { pattern.0 < count self.old.numbered.pool }
         requires text { text < length (lists self.old).atoms }
@@ -364,7 +367,7 @@ impl Derivatives {
     }
 
     // What may follow the end of an element after its last text or element.
-    #[tactic(auto, using(crate::proofs::Keeping::right_extends, crate::proofs::KeepingTexts::sets_extend))]
+    #[tactic(auto, using(crate::proofs::Keeping::right_extends, crate::proofs::KeepingTexts::sets_extend, crate::proofs::RemainderSets::remainder_sets_extend))]
     fn ended(&mut self, pattern: PatternId) -> Result<PatternId, AllocError>
         requires { pattern.0 < count self.old.numbered.pool }
         ensures within { IfOk result (λ r. r.0 < count self.new.numbered.pool) }
@@ -375,7 +378,7 @@ impl Derivatives {
     }
 
     // What may follow the end of an element in which there was nothing, or an empty text.
-    #[tactic(auto, using(crate::proofs::Keeping::right_extends, crate::proofs::KeepingTexts::sets_extend))]
+    #[tactic(auto, using(crate::proofs::Keeping::right_extends, crate::proofs::KeepingTexts::sets_extend, crate::proofs::RemainderSets::remainder_sets_extend))]
     fn ended_fresh(&mut self, pattern: PatternId) -> Result<PatternId, AllocError>
         requires { pattern.0 < count self.old.numbered.pool }
         ensures within { IfOk result (λ r. r.0 < count self.new.numbered.pool) }
