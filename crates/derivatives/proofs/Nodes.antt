@@ -9,10 +9,6 @@ use Rattle.pattern_intern.specs.declared.id.PatternId.{PatternId}
 use Rattle.pattern_intern.specs.declared.node.Node.{Node}
 use Rattle.pattern_intern.specs.declared.node.Node.TheVariants.{Ref, OneOrMore, Choice, Group, Interleave, After}
 
-pub choice_node : (s : Stored) (id : ℕ) (node : Node) (a b : PatternId) → IsNode s id node → node ≡ Choice a b →
-    (a.0 < id) × (b.0 < id) × (tree_at s id ≡ choice (tree_at s a.0) (tree_at s b.0))
-choice_node s id node a b h e = let n = subst (IsNode s id) e h in (n.below.0, n.below.1, n.tree)
-
 -- of a pool that is seen through a reference
 module _ (s t : Stored) (id : ℕ) (node : Node) (same : s ≡ t) (h : IsNode s id node) where
   pub ref_node : (d : ℕ) → node ≡ Ref d → tree_at t id ≡ ref d
@@ -21,8 +17,8 @@ module _ (s t : Stored) (id : ℕ) (node : Node) (same : s ≡ t) (h : IsNode s 
   pub repeated_node : (a : PatternId) → node ≡ OneOrMore a → (a.0 < id) × (tree_at t id ≡ one_or_more (tree_at t a.0))
   repeated_node a e = let n = subst (IsNode s id) e h in (n.below, subst (λ (u : Stored). tree_at u id ≡ one_or_more (tree_at u a.0)) same n.tree)
 
-  pub chosen_node : (a b : PatternId) → node ≡ Choice a b → (a.0 < id) × (b.0 < id) × (tree_at t id ≡ choice (tree_at t a.0) (tree_at t b.0))
-  chosen_node a b e =
+  pub choice_node : (a b : PatternId) → node ≡ Choice a b → (a.0 < id) × (b.0 < id) × (tree_at t id ≡ choice (tree_at t a.0) (tree_at t b.0))
+  choice_node a b e =
       let n = subst (IsNode s id) e h in
       (n.below.0, n.below.1, subst (λ (u : Stored). tree_at u id ≡ choice (tree_at u a.0) (tree_at u b.0)) same n.tree)
 

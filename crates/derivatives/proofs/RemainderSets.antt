@@ -44,10 +44,6 @@ no_remainders g xs e = subst (AreRemainders g []) (sym e) (record { within = All
 pub one_remainder : (g : Numbered) (x : Remainder) → IsWithin g x → AreRemainders g (remainder_of g.pool x ∷ []) (x ∷ [])
 one_remainder g x w = record { within = All-cons (IsWithin g) x [] w (All-nil (IsWithin g)); same = same_refl (remainder_of g.pool x ∷ []) }
 
--- its own
-pub all_remainders : (g : Numbered) (xs : List Remainder) → All (IsWithin g) xs → AreRemainders g (remainders_of g.pool xs) xs
-all_remainders g xs w = record { within = w; same = same_refl (remainders_of g.pool xs) }
-
 set_later : (old new : Numbered) (id : PatternId) (xs : List Remainder) → IsSetOf old id xs → Extends old.pool new.pool → new.schema ≡ old.schema → IsSetOf new id xs
 set_later old new id xs h e same =
     let n = h.number in let l = e.longer in

@@ -2,7 +2,6 @@
 use Rattle.std.specs.Prelude.{ℕ}
 use Rattle.rng_model.specs.Patterns.{Pattern}
 use Rattle.rng_model.specs.Constructors.{after_of, group_of, interleave_of}
-use Rattle.pattern_intern.specs.Stored.{Stored, tree_at}
 use Rattle.derivatives.specs.declared.grow.Grow.{Grow}
 use Rattle.derivatives.specs.declared.grow.Grow.TheVariants.{InGroup, Before, Behind, InAfter}
 
@@ -19,7 +18,3 @@ part (InGroup other) = other.0
 part (Before other) = other.0
 part (Behind other) = other.0
 part (InAfter other) = other.0
-
--- what y becomes
-abbrev pub grow_by : Stored → Grow → Pattern → Pattern
-grow_by s by y = grown by (tree_at s (part by)) y

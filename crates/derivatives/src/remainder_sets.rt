@@ -11,7 +11,7 @@ use indexmap::IndexMap;
 use pattern_intern::PatternId;
 use std::alloc::{AllocError, Global};
 
-// How many numbers and pairs are always kept.
+// How many numbers and pairs may always be kept.
 const LEAST_BOUND: usize = 65_536;
 
 /// The remainders of patterns, by their numbers. They stay right as the pool grows.
@@ -20,7 +20,7 @@ pub(crate) struct RemainderSets {
     sets: IndexMap<PatternId, RemainderSet>,
     /// How many numbers and pairs are kept.
     held: usize,
-    /// With how many of them no more are to be kept.
+    /// With more than so many, all sets are forgotten before another one is made.
     bound: usize,
 }
 

@@ -6,7 +6,7 @@ use Rattle.pattern_intern.specs.Stored.{Stored, tree_at}
 use Rattle.derivatives.specs.Remainders.{Gathers}
 use Rattle.derivatives.proofs.Extending.{extends_trans}
 use Rattle.derivatives.proofs.Gathered.{gathers_after, gathers_group, gathers_grown, gathers_interleave, gathers_part, gathers_repeated, members_begin, members_more, members_end, set_made}
-use Rattle.derivatives.proofs.Nodes.{ref_node, repeated_node, chosen_node, group_node, interleave_node, after_node}
+use Rattle.derivatives.proofs.Nodes.{ref_node, repeated_node, choice_node, group_node, interleave_node, after_node}
 use Rattle.derivatives.proofs.RemainderSets.{remainder_sets_extend, sets_after_put}
 use Rattle.derivatives.proofs.gathering.+gathers.Goals as goal
 
@@ -67,7 +67,7 @@ gather_members-loop-member-init t c = record {
 
 pub gather_members-loop-member-preserved : goal.gather_members-loop-member-preserved
 gather_members-loop-member-preserved t c =
-    let n = chosen_node _ _ _ _ c.pool.ensures c.node.ensures _ _ c.in-Choice.is in
+    let n = choice_node _ _ _ _ c.pool.ensures c.node.ensures _ _ c.in-Choice.is in
     record {
       begun = members_more _ _ _ _ _ _ _ _ _ _ c.requires.inside c.loop-member.invariant.begun n.1 n.0 n.2
           c.in_ok-gather_part-2.ensures.kept c.in_ok-gather_part-2.ensures.schema c.in_ok-gather_part-2.ensures.gathers;
