@@ -13,7 +13,7 @@ ghost use Rattle.listing.specs.Costs.{IsWrittenFor, HasCost, CostsTo, CostsFirst
 
 use crate::listing_end::ListingEnd;
 use crate::writing::write_size;
-use event_lines::{LineBuffer, Spellings};
+use event_lines::DocumentLines;
 use feasibility::{Table, TableFault};
 use lister::Lister;
 use outside::{Sink, Steps};
@@ -27,8 +27,7 @@ fn list_size<O: Sink, L: Ledger>(
     table: &mut Table,
     m: usize,
     left: &mut Option<u64>,
-    spellings: &Spellings,
-    buffer: &mut LineBuffer,
+    lines: &mut DocumentLines,
     out: &mut O,
     steps: &mut Steps<L>,
 ) -> Result<(), ListingEnd>
@@ -36,7 +35,7 @@ fn list_size<O: Sink, L: Ledger>(
     requires most { m ≤ lister.old.room }
     requires small { lister.old.room ≤ 64 }
     requires left { IfSome left.old (λ k. 1 ≤ k) }
-    requires spelled { AreSpellings (lists table.old) spellings.now }
+    requires spelled { AreSpellings (lists table.old) lines.old }
     ensures goes_on { (n : ℕ) (after : Option SkeletonValue) (page : Option ℕ) (taken : Option (List ℕ)) → m ≤ n →
         IsAtSize table.old n after m page left.old taken (O.taken out.old) →
         GoesOn table.old n after m page left.new taken (O.taken out.new) result }
@@ -50,6 +49,7 @@ fn list_size<O: Sink, L: Ledger>(
     ensures left { OnOk result (IfSome left.new (λ k. 1 ≤ k)) }
     ensures room { lister.new.room ≡ lister.old.room }
     ensures kept { Keeps table.old table.new }
+    ensures spellings { lines.new ≡ lines.old }
     ensures told { is_some (O.taken out.new) ≡ is_some (O.taken out.old) }
     ensures cause { HasCauseIn (O.faults out.old) (O.faults out.new) result }
 {
@@ -63,7 +63,7 @@ fn list_size<O: Sink, L: Ledger>(
     }
     table.holds();
     lister.first_of_size(m);
-    write_size(lister, table, left, spellings, buffer, out, steps)
+    write_size(lister, table, left, lines, out, steps)
 }
 
 /// Writes the documents of each size from `first` on to `size`.
@@ -73,7 +73,7 @@ fn list_sizes<O: Sink, L: Ledger>(
     first: usize,
     size: usize,
     left: &mut Option<u64>,
-    spellings: &Spellings,
+    lines: &mut DocumentLines,
     out: &mut O,
     steps: &mut Steps<L>,
 ) -> ListingEnd
@@ -82,7 +82,7 @@ fn list_sizes<O: Sink, L: Ledger>(
     requires small { size ≤ 64 }
     requires room { lister.old.room ≡ size }
     requires left { IfSome left.old (λ k. 1 ≤ k) }
-    requires spelled { AreSpellings (lists table.old) spellings.now }
+    requires spelled { AreSpellings (lists table.old) lines.old }
     ensures ends { (after : Option SkeletonValue) (page : Option ℕ) (taken : Option (List ℕ)) →
         IsAtSize table.old size after first page left.old taken (O.taken out.old) →
         EndsAs (asked_of table.old size after) page taken (O.taken out.new) result }
@@ -98,13 +98,13 @@ fn list_sizes<O: Sink, L: Ledger>(
         HasCost taken (O.taken out.new) (x + table.old.spent) (y + table.new.spent + each * size) each steps.new (asked_of table.old size after) page }
     ensures grown { table.old.grown ≤ size → first ≤ table.old.grown + 1 → result ≡ ListingEnd.Whole → table.new.grown ≡ size }
     ensures kept { Keeps table.old table.new }
+    ensures spellings { lines.new ≡ lines.old }
     ensures told { is_some (O.taken out.new) ≡ is_some (O.taken out.old) }
     ensures cause { HasCauseOf (O.faults out.old) (O.faults out.new) result }
 {
-    let mut buffer = LineBuffer::new();
     let mut m = first;
     while m <= size {
-        if let Err(end) = list_size(lister, table, m, left, spellings, &mut buffer, out, steps) {
+        if let Err(end) = list_size(lister, table, m, left, lines, out, steps) {
             return end;
         }
         m += 1;
@@ -119,12 +119,12 @@ fn resume<O: Sink, L: Ledger>(
     table: &Table,
     after: Option<&Skeleton>,
     left: &mut Option<u64>,
-    spellings: &Spellings,
+    lines: &mut DocumentLines,
     out: &mut O,
     steps: &mut Steps<L>,
 ) -> Result<usize, ListingEnd>
     requires left { IfSome left.old (λ k. 1 ≤ k) }
-    requires spelled { AreSpellings (lists table.now) spellings.now }
+    requires spelled { AreSpellings (lists table.now) lines.old }
     requires small { lister.old.room ≤ 64 }
     requires listed { IfSome after (λ c. IsListed table.now.schema (lists table.now) lister.old.room c.now) }
     requires grown { IfSome after (λ c. size_of c.now ≤ table.now.grown) }
@@ -139,6 +139,7 @@ fn resume<O: Sink, L: Ledger>(
     ensures some { IfOk result (λ m. 1 ≤ m) }
     ensures most { 1 ≤ lister.old.room → IfOk result (λ m. m ≤ lister.old.room + 1) }
     ensures room { lister.new.room ≡ lister.old.room }
+    ensures spellings { lines.new ≡ lines.old }
     ensures told { is_some (O.taken out.new) ≡ is_some (O.taken out.old) }
     ensures cause { HasCauseIn (O.faults out.old) (O.faults out.new) result }
 {
@@ -146,24 +147,23 @@ fn resume<O: Sink, L: Ledger>(
         return Ok(1);
     };
     table.holds();
-    let mut buffer = LineBuffer::new();
     lister.resume_at(table, cursor, steps);
-    match write_size(lister, table, left, spellings, &mut buffer, out, steps) {
+    match write_size(lister, table, left, lines, out, steps) {
         Ok(()) => Ok(cursor.size() + 1),
         Err(end) => Err(end),
     }
 }
 
 /// What a listing keeps from its beginning on: the walk, and the table's names and texts spelled.
-fn begin(alloc: Global, table: &Table, size: usize) -> Result<(Lister, Spellings), AllocError>
+fn begin(alloc: Global, table: &Table, size: usize) -> Result<(Lister, DocumentLines), AllocError>
     requires some { 1 ≤ size }
     requires most { size ≤ 64 }
     ensures room { IfOk result (λ begun. begun.0.room ≡ size) }
     ensures spelled { IfOk result (λ begun. AreSpellings (lists table.now) begun.1) }
 {
     let lister = Lister::begin(alloc, size)?;
-    let spellings = Spellings::of(alloc, table.universe(), table.atoms())?;
-    Ok((lister, spellings))
+    let lines = DocumentLines::of(alloc, table.universe(), table.atoms())?;
+    Ok((lister, lines))
 }
 
 /// Writes the documents of the table's schema with at most `size` nodes, 1 to 64, in order: from the first on, or those that follow the
@@ -198,18 +198,18 @@ pub fn write_listing<O: Sink, L: Ledger>(
     ensures grown { table.old.grown ≤ size → result ≡ ListingEnd.Whole → table.new.grown ≡ size }
 {
     table.holds();
-    let Ok((mut lister, spellings)) = begin(alloc, table, size) else {
+    let Ok((mut lister, mut lines)) = begin(alloc, table, size) else {
         return ListingEnd::OutOfMemory;
     };
     let mut left = page;
-    match resume(&mut lister, table, after, &mut left, &spellings, out, steps) {
+    match resume(&mut lister, table, after, &mut left, &mut lines, out, steps) {
         Ok(first) => list_sizes(
             &mut lister,
             table,
             first,
             size,
             &mut left,
-            &spellings,
+            &mut lines,
             out,
             steps,
         ),

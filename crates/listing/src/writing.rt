@@ -11,7 +11,7 @@ ghost use Rattle.listing.specs.Summing.{each_of};
 ghost use Rattle.listing.specs.Costs.{IsWrittenFor, CostsOn, CostsTo};
 
 use crate::listing_end::ListingEnd;
-use event_lines::{LineBuffer, Spellings, write_codes};
+use event_lines::DocumentLines;
 use feasibility::Table;
 use lister::Lister;
 use outside::{Sink, Steps};
@@ -38,8 +38,7 @@ fn write_next<O: Sink, L: Ledger>(
     lister: &mut Lister,
     table: &Table,
     left: &mut Option<u64>,
-    spellings: &Spellings,
-    buffer: &mut LineBuffer,
+    lines: &mut DocumentLines,
     out: &mut O,
     steps: &mut Steps<L>,
 ) -> Result<bool, ListingEnd>
@@ -47,7 +46,7 @@ fn write_next<O: Sink, L: Ledger>(
     requires grown { lister.old.size ≤ table.now.grown }
     requires own { IsWalkOf table.now lister.old.size lister.old.stage }
     requires some { IfSome left.old (λ k. 1 ≤ k) }
-    requires spelled { AreSpellings (lists table.now) spellings.now }
+    requires spelled { AreSpellings (lists table.now) lines.old }
     ensures advances { (n : ℕ) (after : Option SkeletonValue) (page : Option ℕ) (taken : Option (List ℕ)) →
         IsReadyFor table.now n after lister.old page left.old taken (O.taken out.old) →
         Advances table.now n after lister.new page left.new taken (O.taken out.new) result }
@@ -60,6 +59,7 @@ fn write_next<O: Sink, L: Ledger>(
     ensures own { IsWalkOf table.now lister.new.size lister.new.stage }
     ensures same { (lister.new.room ≡ lister.old.room) × (lister.new.size ≡ lister.old.size) }
     ensures fewer { result ≡ Ok true → walk_left (lists table.now) lister.new.size lister.new.stage < walk_left (lists table.now) lister.old.size lister.old.stage }
+    ensures spellings { lines.new ≡ lines.old }
     ensures told { is_some (O.taken out.new) ≡ is_some (O.taken out.old) }
     ensures cause { HasCauseIn (O.faults out.old) (O.faults out.new) result }
 {
@@ -67,7 +67,7 @@ fn write_next<O: Sink, L: Ledger>(
     if !lister.next(table, steps) {
         return Ok(false);
     }
-    if write_codes(lister.codes(), spellings, buffer, out).is_err() {
+    if lines.write(lister.codes(), out).is_err() {
         return Err(ListingEnd::WriteFault);
     }
     if fills(left) {
@@ -81,8 +81,7 @@ pub(crate) fn write_size<O: Sink, L: Ledger>(
     lister: &mut Lister,
     table: &Table,
     left: &mut Option<u64>,
-    spellings: &Spellings,
-    buffer: &mut LineBuffer,
+    lines: &mut DocumentLines,
     out: &mut O,
     steps: &mut Steps<L>,
 ) -> Result<(), ListingEnd>
@@ -90,7 +89,7 @@ pub(crate) fn write_size<O: Sink, L: Ledger>(
     requires grown { lister.old.size ≤ table.now.grown }
     requires own { IsWalkOf table.now lister.old.size lister.old.stage }
     requires some { IfSome left.old (λ k. 1 ≤ k) }
-    requires spelled { AreSpellings (lists table.now) spellings.now }
+    requires spelled { AreSpellings (lists table.now) lines.old }
     ensures completes { (n : ℕ) (after : Option SkeletonValue) (page : Option ℕ) (taken : Option (List ℕ)) →
         IsReadyFor table.now n after lister.old page left.old taken (O.taken out.old) →
         Completes table.now n after lister.old page left.new taken (O.taken out.new) result }
@@ -100,9 +99,10 @@ pub(crate) fn write_size<O: Sink, L: Ledger>(
     ensures cut { IfErr result IsCut }
     ensures left { OnOk result (IfSome left.new (λ k. 1 ≤ k)) }
     ensures room { lister.new.room ≡ lister.old.room }
+    ensures spellings { lines.new ≡ lines.old }
     ensures told { is_some (O.taken out.new) ≡ is_some (O.taken out.old) }
     ensures cause { HasCauseIn (O.faults out.old) (O.faults out.new) result }
 {
-    while write_next(lister, table, left, spellings, buffer, out, steps)? {}
+    while write_next(lister, table, left, lines, out, steps)? {}
     Ok(())
 }

@@ -10,7 +10,7 @@ use Rattle.listing.proofs.Costs.{below_later, cost_below, cost_later, costs_grow
 use Rattle.listing.proofs.sizes.list_size.Goals as goal
 
 pub write_size-requires-clause-spelled : goal.write_size-requires-clause-spelled
-write_size-requires-clause-spelled g c = spelled_on c.args.table.now c.grow_to.new.self c.args.spellings.now c.grow_to.ensures.kept c.requires.spelled
+write_size-requires-clause-spelled g c = spelled_on c.args.table.now c.grow_to.new.self c.args.lines.now c.grow_to.ensures.kept c.requires.spelled
 
 pub returns-in-Err-StateLimit-clause-goes_on : goal.returns-in-Err-StateLimit-clause-goes_on
 returns-in-Err-StateLimit-clause-goes_on g c = λ n after page taken l h.

@@ -1,5 +1,6 @@
 use Rattle.std.proofs.Common.{◌≡◌, ◌+◌, ◌*◌, ◌∙◌, ap, arith, refl, sym, subst}
-use Rattle.feasibility.specs.Tables.{group_total}
+use Rattle.event_lines.specs.Spelled.{AreSpellings}
+use Rattle.feasibility.specs.Tables.{group_total, lists}
 use Rattle.listing.specs.Progress.{asked_of}
 use Rattle.listing.specs.Endings.{IsAtSize, IsCut}
 use Rattle.listing.specs.Doing.{IsDoneBelow}
@@ -13,7 +14,9 @@ use Rattle.listing.proofs.FromSizeToSize.{keeps_itself, keeps_on, same_asked, at
 use Rattle.listing.proofs.sizes.list_sizes.Goals as goal
 
 pub list_size-requires-clause-spelled : goal.list_size-requires-clause-spelled
-list_size-requires-clause-spelled g c = spelled_on c.args.table.now c.loop-m.table c.args.spellings.now c.loop-m.invariant.kept c.requires.spelled
+list_size-requires-clause-spelled g c =
+    subst (AreSpellings (lists c.loop-m.table)) (sym c.loop-m.invariant.spellings)
+    (spelled_on c.args.table.now c.loop-m.table c.args.lines.now c.loop-m.invariant.kept c.requires.spelled)
 
 pub loop-m-init : goal.loop-m-init
 loop-m-init g c = record {
@@ -33,6 +36,7 @@ loop-m-init g c = record {
             c.args.left.now (omega arith) h,
       );
   grown = λ few known. (known, few);
+  spellings = refl;
   told = refl;
   faults = refl;
 }
@@ -79,6 +83,7 @@ loop-m-preserved g c =
             omega (arith, next),
             let small = so.1 in omega (arith, next, small, test),
           );
+      spellings = c.list_size.ensures.spellings ∙ l.invariant.spellings;
       told = c.list_size.ensures.told ∙ l.invariant.told;
       faults = c.in_default.ensures.cause ∙ l.invariant.faults;
     }

@@ -1,8 +1,9 @@
-use Rattle.std.proofs.Common.{◌+◌, ◌*◌, Option, Bor, option_map, arith, subst}
+use Rattle.std.proofs.Common.{◌+◌, ◌*◌, Option, Bor, option_map, arith, subst, sym}
 use Rattle.skeleton.specs.declared.document.Skeleton.{Skeleton}
 use Rattle.listing.specs.Progress.{asked_of}
 use Rattle.listing.specs.Endings.{EndsAs, IsAtSize, IsCut}
-use Rattle.feasibility.specs.Tables.{group_total}
+use Rattle.event_lines.specs.Spelled.{AreSpellings}
+use Rattle.feasibility.specs.Tables.{group_total, lists}
 use Rattle.listing.specs.Doing.{IsDoneBelow}
 use Rattle.listing.specs.Summing.{each_of}
 use Rattle.listing.specs.Costs.{IsWrittenFor, HasCost}
@@ -14,6 +15,9 @@ use Rattle.listing.proofs.sizes.write_listing.Goals as goal
 
 abbrev value_of : Option (Bor Skeleton) → Option Skeleton
 value_of o = option_map (λ b. b.now) o
+
+pub list_sizes-requires-clause-spelled : goal.list_sizes-requires-clause-spelled
+list_sizes-requires-clause-spelled g c = subst (AreSpellings (lists c.args.table.now)) (sym c.resume.ensures.spellings) c.in-Ok.ensures.spelled
 
 pub returns-in_default-clause-ends : goal.returns-in_default-clause-ends
 returns-in_default-clause-ends g c = lacks_all c.args.table.now c.args.size (value_of c.args.after) c.args.page (g.O.Sink.taken c.args.out.now)

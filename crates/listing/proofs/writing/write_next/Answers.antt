@@ -22,8 +22,8 @@ returns-then-not-next-clause-advances g c = λ n after page taken h.
     (λ one. not_true c.next.result c.if-not-next.true (c.next.ensures.found.1 one)) in
     subst (λ m. IsWrittenBelow (asked_of t n after) page (m + 1) c.args.left.now taken out) (sym c.next.ensures.same.1) below
 
-pub write_codes-requires : goal.write_codes-requires
-write_codes-requires g c =
+pub write-requires : goal.write-requires
+write-requires g c =
     let t = c.args.table.now in
     let below = codes_in_range t t.universe t.atoms refl refl c.next.new.self.size c.next.new.self.stage c.codes.result.now c.next.ensures.own c.codes.ensures in
     record { lists = lists t; spelled = c.requires.spelled; in_range = below }
@@ -33,11 +33,11 @@ returns-then-is_err-clause-advances g c = λ n after page taken h.
     let t = c.args.table.now in
     let w = c.args.lister.now in
     let old = g.O.Sink.taken c.args.out.now in
-    let new = g.O.Sink.taken c.write_codes.new.sink in
+    let new = g.O.Sink.taken c.write.new.sink in
     let codes = map code_of c.codes.result.now in
     let left = c.args.left.now in
     let d = coming t n after w page left taken old c.next.new.self.stage codes h c.next.ensures.documents c.codes.ensures in
-    let front = failed c.write_codes.result (sym c.is_err.ensures.value ∙ c.if-is_err.true) (c.write_codes.ensures.err (lists t) (events d.document) c.requires.spelled d.coded) in
+    let front = failed c.write.result (sym c.is_err.ensures.value ∙ c.if-is_err.true) (c.write.ensures.err (lists t) (events d.document) c.requires.spelled d.coded) in
     begun (asked_of t n after) page w.size left taken old codes d h.fits new (subst (AppendsFront old new) (text_is d.document) front)
 
 pub returns-then-fills-clause-advances : goal.returns-then-fills-clause-advances
@@ -45,11 +45,11 @@ returns-then-fills-clause-advances g c = λ n after page taken h.
     let t = c.args.table.now in
     let w = c.args.lister.now in
     let old = g.O.Sink.taken c.args.out.now in
-    let new = g.O.Sink.taken c.write_codes.new.sink in
+    let new = g.O.Sink.taken c.write.new.sink in
     let codes = map code_of c.codes.result.now in
     let left = c.args.left.now in
     let d = coming t n after w page left taken old c.next.new.self.stage codes h c.next.ensures.documents c.codes.ensures in
-    let all = went c.write_codes.result (sym c.is_err.ensures.value ∙ c.if-is_err.false) (c.write_codes.ensures.ok (lists t) (events d.document) c.requires.spelled d.coded) in
+    let all = went c.write.result (sym c.is_err.ensures.value ∙ c.if-is_err.false) (c.write.ensures.ok (lists t) (events d.document) c.requires.spelled d.coded) in
     ended (asked_of t n after) page w.size left taken old codes d h.fits new (subst (Appends old new) (text_is d.document) all)
     (c.fills.ensures.full page (length d.front) d.room c.if-fills.true)
 
@@ -59,12 +59,12 @@ returns-clause-advances g c = λ n after page taken h.
     let w = c.args.lister.now in
     let v = c.next.new.self in
     let old = g.O.Sink.taken c.args.out.now in
-    let new = g.O.Sink.taken c.write_codes.new.sink in
+    let new = g.O.Sink.taken c.write.new.sink in
     let codes = map code_of c.codes.result.now in
     let left = c.args.left.now in
     let rest = c.fills.new.left in
     let d = coming t n after w page left taken old v.stage codes h c.next.ensures.documents c.codes.ensures in
-    let all = went c.write_codes.result (sym c.is_err.ensures.value ∙ c.if-is_err.false) (c.write_codes.ensures.ok (lists t) (events d.document) c.requires.spelled d.coded) in
+    let all = went c.write.result (sym c.is_err.ensures.value ∙ c.if-is_err.false) (c.write.ensures.ok (lists t) (events d.document) c.requires.spelled d.coded) in
     ready_again t n after w v page left rest taken old new c.next.ensures.same.1 h
     (written (asked_of t n after) page w.size left taken old codes d new rest v.stage c.codes.ensures (subst (Appends old new) (text_is d.document) all)
     (c.fills.ensures.more page (length d.front) d.room c.if-fills.false))
@@ -101,10 +101,10 @@ returns-then-is_err-clause-costs g c = λ n x y each after page taken l h.
     let s1 = c.next.new.steps in
     let ticks = c.next.ensures.ticks in
     let old = g.O.Sink.taken c.args.out.now in
-    let new = g.O.Sink.taken c.write_codes.new.sink in
+    let new = g.O.Sink.taken c.write.new.sink in
     let codes = map code_of c.codes.result.now in
     let d = sums.next_one t n after (IsWrittenFor taken old x y each s) page w left v.stage codes h c.next.ensures.documents c.codes.ensures in
-    let front = failed c.write_codes.result (sym c.is_err.ensures.value ∙ c.if-is_err.true) (c.write_codes.ensures.err (lists t) (events d.document) c.requires.spelled d.coded) in
+    let front = failed c.write.result (sym c.is_err.ensures.value ∙ c.if-is_err.true) (c.write.ensures.err (lists t) (events d.document) c.requires.spelled d.coded) in
     cost_cut a page taken old x y each s w.size left codes d new s1 (omega (arith, ticks, l)) h.fits (subst (AppendsFront old new) (text_is d.document) front)
 
 pub returns-then-fills-clause-costs : goal.returns-then-fills-clause-costs
@@ -118,10 +118,10 @@ returns-then-fills-clause-costs g c = λ n x y each after page taken l h.
     let s1 = c.next.new.steps in
     let ticks = c.next.ensures.ticks in
     let old = g.O.Sink.taken c.args.out.now in
-    let new = g.O.Sink.taken c.write_codes.new.sink in
+    let new = g.O.Sink.taken c.write.new.sink in
     let codes = map code_of c.codes.result.now in
     let d = sums.next_one t n after (IsWrittenFor taken old x y each s) page w left v.stage codes h c.next.ensures.documents c.codes.ensures in
-    let all = went c.write_codes.result (sym c.is_err.ensures.value ∙ c.if-is_err.false) (c.write_codes.ensures.ok (lists t) (events d.document) c.requires.spelled d.coded) in
+    let all = went c.write.result (sym c.is_err.ensures.value ∙ c.if-is_err.false) (c.write.ensures.ok (lists t) (events d.document) c.requires.spelled d.coded) in
     cost_full a page taken old x y each s w.size left codes d new s1 (omega (arith, ticks, l)) h.fits (subst (Appends old new) (text_is d.document) all)
 
 pub returns-clause-costs : goal.returns-clause-costs
@@ -135,13 +135,13 @@ returns-clause-costs g c = λ n x y each after page taken l h.
     let s1 = c.next.new.steps in
     let ticks = c.next.ensures.ticks in
     let old = g.O.Sink.taken c.args.out.now in
-    let new = g.O.Sink.taken c.write_codes.new.sink in
+    let new = g.O.Sink.taken c.write.new.sink in
     let codes = map code_of c.codes.result.now in
     let d = sums.next_one t n after (IsWrittenFor taken old x y each s) page w left v.stage codes h c.next.ensures.documents c.codes.ensures in
     let rest = c.fills.new.left in
     let before = IsWrittenFor taken old x y each s in
     let now = IsWrittenFor taken new x y each s1 in
-    let all = went c.write_codes.result (sym c.is_err.ensures.value ∙ c.if-is_err.false) (c.write_codes.ensures.ok (lists t) (events d.document) c.requires.spelled d.coded) in
+    let all = went c.write.result (sym c.is_err.ensures.value ∙ c.if-is_err.false) (c.write.ensures.ok (lists t) (events d.document) c.requires.spelled d.coded) in
     let more = written_more a page taken old x y each s w.size left codes d new s1 (omega (arith, ticks, l)) (subst (Appends old new) (text_is d.document) all) in
     sums.ready_again t n after before now page w v left rest c.next.ensures.same.1 h
     (sums.done_with a before page w.size left codes d now rest v.stage c.codes.ensures more (c.fills.ensures.more page (length d.front) d.room c.if-fills.false))

@@ -21,6 +21,7 @@ invariant-loop g l = record {
   costs : (n x y each : ℕ) (after : Option Skeleton) (page : Option ℕ) (taken : Option (List ℕ)) → each_of l.table l.fn.lister.room ≤ each →
       IsReady l.table n after (IsWrittenFor taken (g.O.Sink.taken l.fn.out) x y each l.fn.steps) page l.fn.lister l.fn.left →
       IsReady l.table n after (IsWrittenFor taken (g.O.Sink.taken l.out) x y each l.steps) page l.lister l.left;
+  spellings : l.lines ≡ l.fn.lines;
   told : is_some (g.O.Sink.taken l.out) ≡ is_some (g.O.Sink.taken l.fn.out);
   faults : g.O.Sink.faults l.out ≡ g.O.Sink.faults l.fn.out;
 }
