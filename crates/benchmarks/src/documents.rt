@@ -2,7 +2,7 @@
 ghost use Rattle.std.specs.Prelude.{None};
 ghost use Rattle.event_lines.specs.Spelled.{AreSpelled};
 
-use event_lines::{LineBuffer, Spellings, are_in_range, write_codes};
+use event_lines::{DocumentLines, are_in_range};
 use name_classes::{Name, NameClass};
 use name_universe::Universe;
 use outside::{Failed, Sink};
@@ -13,7 +13,7 @@ use std::io;
 use std::time::Instant;
 use text_atoms::{Atoms, Literals, Text, TextList};
 
-/// How often the document is written.
+/// How many documents are written.
 const DOCUMENTS: u32 = 1_000_000;
 
 /// The lines of the document.
@@ -63,11 +63,42 @@ const CODES: [Code; 19] = [
     Code::Closing,
 ];
 
-/// Counts the bytes that it takes, and the pieces.
+/// The codes of a document of as many bytes, which begins like that one.
+const OTHER_CODES: [Code; 19] = [
+    Code::Opening(0),
+    Code::Attr(0, 0),
+    Code::Body,
+    Code::Opening(1),
+    Code::Attr(0, 0),
+    Code::Body,
+    Code::Chars(0),
+    Code::Closing,
+    Code::Opening(1),
+    Code::Attr(0, 0),
+    Code::Body,
+    Code::Chars(0),
+    Code::Closing,
+    Code::Opening(0),
+    Code::Attr(0, 0),
+    Code::Body,
+    Code::Chars(0),
+    Code::Closing,
+    Code::Closing,
+];
+
+/// Counts the bytes that it takes, and the calls.
 #[derive(Drop)]
 struct Counter {
     bytes: u64,
-    pieces: u64,
+    calls: u64,
+}
+
+impl Counter {
+    /// Counts a call with these bytes.
+    fn take(&mut self, bytes: &[u8]) {
+        self.bytes = self.bytes.saturating_add(bytes.len() as u64);
+        self.calls = self.calls.saturating_add(1);
+    }
 }
 
 impl Sink for Counter {
@@ -76,9 +107,13 @@ impl Sink for Counter {
     ghost faults = { λ c. 0 };
 
     fn write(&mut self, piece: &[u8]) -> Result<usize, Failed> {
-        self.bytes = self.bytes.saturating_add(piece.len() as u64);
-        self.pieces = self.pieces.saturating_add(1);
+        self.take(piece);
         Ok(piece.len())
+    }
+
+    fn write_lines(&mut self, lines: &[u8]) -> Result<(), Failed> {
+        self.take(lines);
+        Ok(())
     }
 }
 
@@ -97,13 +132,13 @@ fn universe(alloc: Global) -> Result<Option<Universe>, AllocError> {
     Ok(Some(Universe::of(alloc, &schema, 1)?))
 }
 
-/// Writes the codes again and again. False where the sink failed.
-fn write(codes: &[Code], spellings: &Spellings, sink: &mut Counter) -> bool
-    requires { AreSpelled spellings.now codes.now }
+/// Writes the two documents in turn. False where the sink failed.
+fn write(codes: &[Code], others: &[Code], lines: &mut DocumentLines, sink: &mut Counter) -> bool
+    requires codes { AreSpelled lines.old codes.now }
+    requires others { AreSpelled lines.old others.now }
 {
-    let mut buffer = LineBuffer::new();
-    for _ in 0..DOCUMENTS {
-        if write_codes(codes, spellings, &mut buffer, sink).is_err() {
+    for _ in 0..DOCUMENTS / 2 {
+        if lines.write(codes, sink).is_err() || lines.write(others, sink).is_err() {
             return false;
         }
     }
@@ -125,35 +160,37 @@ fn copy(alloc: Global, lines: &[&str], sink: &mut Counter) -> Result<bool, Alloc
     Ok(true)
 }
 
-/// Writes the codes again and again, where they are in range of the lists.
-fn write_document(alloc: Global, codes: &[Code], sink: &mut Counter) -> Result<bool, AllocError> {
+/// Writes the two documents in turn, where their codes are in range of the lists.
+fn write_documents(
+    alloc: Global,
+    codes: &[Code],
+    others: &[Code],
+    sink: &mut Counter,
+) -> Result<bool, AllocError> {
     let Some(universe) = universe(alloc)? else {
         return Ok(false);
     };
     let atoms = Atoms::of(alloc, &Literals::new(alloc), &TextList::new(alloc))?;
-    let spellings = Spellings::of(alloc, &universe, &atoms)?;
-    if !are_in_range(codes, &universe, &atoms) {
+    let mut lines = DocumentLines::of(alloc, &universe, &atoms)?;
+    if !are_in_range(codes, &universe, &atoms) || !are_in_range(others, &universe, &atoms) {
         return Ok(false);
     }
-    Ok(write(codes, &spellings, sink))
+    Ok(write(codes, others, &mut lines, sink))
 }
 
 /// Times a benchmark of the writer of documents. False where it isn't one.
 pub fn time_writer(rt: &HostRuntime, name: &str) -> io::Result<bool> {
-    let mut sink = Counter {
-        bytes: 0,
-        pieces: 0,
-    };
+    let mut sink = Counter { bytes: 0, calls: 0 };
     let start = Instant::now(rt)?;
     let done = match name {
-        "write-codes" => write_document(rt.alloc(), &CODES, &mut sink)?,
+        "write-codes" => write_documents(rt.alloc(), &CODES, &OTHER_CODES, &mut sink)?,
         "copy-lines" => copy(rt.alloc(), &LINES, &mut sink)?,
         _ => return Ok(false),
     };
     let micros = start.elapsed(rt)?.as_micros();
     println!(rt;
-        "{name}: {done}, {DOCUMENTS} documents, {} pieces, {} bytes in {micros} microseconds",
-        sink.pieces, sink.bytes
+        "{name}: {done}, {DOCUMENTS} documents, {} calls, {} bytes in {micros} microseconds",
+        sink.calls, sink.bytes
     )?;
     Ok(true)
 }
