@@ -4,7 +4,6 @@ pub mod Listing
 pub mod Written
 pub mod Coding
 pub mod Counting
-pub mod Schemas
 pub mod Ranges
 pub mod Spelling
 pub mod Keeping

@@ -24,6 +24,3 @@ pub use line_reader::{LineFault, read_skeleton};
 pub use measuring::measure;
 pub use universe::write_universe;
 pub use writing::{WriteFault, write_name_line, write_skeleton, write_text_line};
-
-#[cfg(test)]
-mod tests;

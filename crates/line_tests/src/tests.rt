@@ -1,5 +1,9 @@
 // The text of a skeleton, how many pieces it is handed over in, and documents one after the other.
-use crate::{
+ghost use Rattle.std.specs.Prelude.{◌≡◌};
+ghost use Rattle.event_lines.specs.Coded.{lists_of};
+ghost use Rattle.event_lines.specs.Spelled.{AreSpelled, AreSpellings};
+
+use event_lines::{
     DocumentLines, Measure, are_in_range, measure, read_skeleton, write_name_line, write_skeleton,
     write_text_line,
 };
@@ -206,83 +210,134 @@ fn add_lines(
     add_line(wanted, "\n", pieces, failing)
 }
 
+/// The code that a letter stands for.
+fn code_of(letter: u8) -> Code {
+    match letter {
+        b'(' => Code::Opening(0),
+        b'A' => Code::Attr(0, 0),
+        b'>' => Code::Body,
+        b'-' => Code::Chars(0),
+        b'+' => Code::Chars(1),
+        _ => Code::Closing,
+    }
+}
+
+/// The codes that letters stand for, so many times.
+fn codes_of(alloc: Global, letters: &str, times: usize) -> Result<Vec<Code>, Fail> {
+    let mut codes = Vec::new(alloc);
+    for _ in 0..times {
+        for letter in letters.as_bytes() {
+            codes.push(code_of(*letter))?;
+        }
+    }
+    Ok(codes)
+}
+
+/// The atoms of a schema without literals, and of one text more.
+fn atoms(alloc: Global, extra: Text) -> Result<Atoms, Fail> {
+    let mut texts = TextList::new(alloc);
+    texts.push(extra)?;
+    Ok(Atoms::of(alloc, &Literals::new(alloc), &texts)?)
+}
+
+/// Whether a document is taken line by line, behind what was taken before, where the piece of this number, counted from 0, fails.
+fn is_taken(
+    codes: &[Code],
+    long: &str,
+    failing: u64,
+    lines: &mut DocumentLines,
+    pieces: &mut u64,
+    wanted: &mut Vec<u8>,
+    sink: &mut MemSink,
+) -> Result<bool, Fail>
+    requires { AreSpelled lines.old codes.now }
+    ensures { lines.new ≡ lines.old }
+{
+    let whole = add_lines(wanted, codes, long, pieces, failing)?;
+    let done = lines.write(codes, sink).is_ok();
+    Ok(done == whole && sink.taken() == wanted.as_slice())
+}
+
 /// Whether the documents, written one after the other, are taken line by line, where the piece of this number, counted from 0, fails.
-fn in_turn(alloc: Global, documents: &[&[Code]], failing: u64) -> Result<bool, Fail> {
+fn are_taken(
+    alloc: Global,
+    documents: &[(&str, usize)],
+    failing: u64,
+    universe: &Universe,
+    atoms: &Atoms,
+    lines: &mut DocumentLines,
+    sink: &mut MemSink,
+) -> Result<bool, Fail>
+    requires { AreSpellings (lists_of universe.now atoms.now) lines.old }
+{
     let characters = "y".repeat(alloc, 1000)?;
     let long = format!(in alloc; "-{characters}\n")?;
-    let mut extra = TextList::new(alloc);
-    extra.push(Text::from_string(characters))?;
-    let universe = universe(alloc)?;
-    let atoms = Atoms::of(alloc, &Literals::new(alloc), &extra)?;
-    let mut lines = DocumentLines::of(alloc, &universe, &atoms)?;
-    let mut calls = Calls::new(alloc);
-    calls.push(failing)?;
-    let mut sink = MemSink::new(alloc, 400_000, calls, 40_000)?;
     let mut wanted = Vec::new(alloc);
     let mut pieces = 0;
-    for codes in documents {
-        if !are_in_range(codes, &universe, &atoms) {
+    for (letters, times) in documents {
+        let codes = codes_of(alloc, letters, *times)?;
+        if !are_in_range(codes.as_slice(), universe, atoms) {
             return Ok(false);
         }
-        let whole = add_lines(&mut wanted, codes, long.as_str(), &mut pieces, failing)?;
-        let done = lines.write(codes, &mut sink).is_ok();
-        if done != whole || sink.taken() != wanted.as_slice() {
+        let is_right = is_taken(
+            codes.as_slice(),
+            long.as_str(),
+            failing,
+            lines,
+            &mut pieces,
+            &mut wanted,
+            sink,
+        )?;
+        if !is_right {
             return Ok(false);
         }
     }
     Ok(true)
 }
 
+/// Whether the documents are taken so by a sink of whose calls the one of this number fails.
+fn in_turn(alloc: Global, documents: &[(&str, usize)], failing: u64) -> Result<bool, Fail> {
+    let universe = universe(alloc)?;
+    let atoms = atoms(alloc, Text::from_string("y".repeat(alloc, 1000)?))?;
+    let mut lines = DocumentLines::of(alloc, &universe, &atoms)?;
+    let mut calls = Calls::new(alloc);
+    calls.push(failing)?;
+    let mut sink = MemSink::new(alloc, 400_000, calls, 40_000)?;
+    are_taken(
+        alloc, documents, failing, &universe, &atoms, &mut lines, &mut sink,
+    )
+}
+
 #[test]
 fn documents_in_turn(rt: HostRuntime) -> Result<(), Fail> {
-    let alloc = rt.alloc();
-    let empty = [Code::Opening(0), Code::Body, Code::Closing];
-    let attribute = [
-        Code::Opening(0),
-        Code::Attr(0, 0),
-        Code::Body,
-        Code::Closing,
-    ];
-    let text = [
-        Code::Opening(0),
-        Code::Attr(0, 0),
-        Code::Body,
-        Code::Chars(0),
-        Code::Closing,
-    ];
-    let front = [Code::Opening(0), Code::Attr(0, 0), Code::Body];
-    let longer = [Code::Opening(0), Code::Body, Code::Closing, Code::Closing];
-    let long_text = [Code::Opening(0), Code::Body, Code::Chars(1), Code::Closing];
-    // More bytes than are held, as many codes, and more codes.
-    let long_lines = [Code::Chars(1); 40];
-    let most_codes = [Code::Body; 256];
-    let more_codes = [Code::Body; 257];
+    // What is written, by a letter for each code, and how many times over. Among them are more bytes than are held, as many codes, and
+    // more codes.
     let documents = [
-        empty.as_slice(),
-        attribute.as_slice(),
-        text.as_slice(),
-        front.as_slice(),
-        text.as_slice(),
-        empty.as_slice(),
-        longer.as_slice(),
-        [].as_slice(),
-        longer.as_slice(),
-        long_text.as_slice(),
-        long_lines.as_slice(),
-        long_text.as_slice(),
-        most_codes.as_slice(),
-        more_codes.as_slice(),
-        more_codes.as_slice(),
-        long_lines.as_slice(),
-        long_lines.as_slice(),
-        text.as_slice(),
-        text.as_slice(),
+        ("(>)", 1),
+        ("(A>)", 1),
+        ("(A>-)", 1),
+        ("(A>", 1),
+        ("(A>-)", 1),
+        ("(>)", 1),
+        ("(>))", 1),
+        ("", 1),
+        ("(>))", 1),
+        ("(>+)", 1),
+        ("+", 40),
+        ("(>+)", 1),
+        (">", 256),
+        (">", 257),
+        (">", 257),
+        ("+", 40),
+        ("+", 40),
+        ("(A>-)", 1),
+        ("(A>-)", 1),
     ];
     // No piece fails; then one of the first documents, of the long ones, and of the last.
     for failing in [
         10_000, 0, 4, 6, 9, 15, 60, 75, 90, 95, 330, 360, 604, 900, 955,
     ] {
-        assert!(rt; in_turn(alloc, &documents, failing)?);
+        assert!(rt; in_turn(rt.alloc(), &documents, failing)?);
     }
     Ok(())
 }
