@@ -7,3 +7,4 @@ pub mod Counting
 pub mod Ranges
 pub mod Spelling
 pub mod Keeping
+pub mod Ending

@@ -1,5 +1,5 @@
 -- Codes as the events at their positions, and what is counted of bytes: this project's own.
-use Rattle.std.specs.Prelude.{◌≡◌, ℕ, ◌+◌, ◌%◌, ◌^◌, List, [], ◌++◌, flat_map, get_or, length, map, sum, codes}
+use Rattle.std.specs.Prelude.{◌≡◌, ◌+◌, ◌%◌, ◌^◌, List, [], ◌++◌, flat_map, get_or, length, map, sum, codes}
 use Rattle.std.specs.List.{All}
 use Rattle.rng_model.specs.Texts.{Text}
 use Rattle.rng_model.specs.Names.{Name}

@@ -1,5 +1,5 @@
 // Lines of codes that are held from one document to the next.
-ghost use Rattle.std.specs.Prelude.{◌≡◌, ◌≤◌, [], ◌∷◌, ◌++◌, IsTrue, codes as bytes_of, false, get_or, length, take, OnOk, OnErr};
+ghost use Rattle.std.specs.Prelude.{◌≡◌, ◌+◌, ◌≤◌, [], ◌∷◌, ◌++◌, IsTrue, false, get_or, length, take, OnOk, OnErr};
 ghost use Rattle.event_lines.specs.Pieces.{Sends, Fails, progress};
 ghost use Rattle.event_lines.specs.Held.{HoldsLines};
 ghost use Rattle.event_lines.specs.Spelled.{spelled_line};
@@ -36,7 +36,8 @@ impl Model for HeldLines {
 impl HeldLines {
     /// No codes, and no lines.
     pub(crate) fn new() -> Self
-        ensures { (s : Spellings) → HoldsLines s result }
+        ensures none { result.codes ≡ [] }
+        ensures holds { (s : Spellings) → HoldsLines s result }
     {
         HeldLines {
             text: LineBuffer::new(),
@@ -64,8 +65,24 @@ impl HeldLines {
         self.len = count;
     }
 
+    /// Adds a code with its line, where there is room.
+    pub(crate) fn add(&mut self, code: Code, line: &[u8]) -> bool
+        ensures codes { IsTrue result → self.new.codes ≡ self.old.codes ++ code ∷ [] }
+        ensures full { result ≡ false → self.new ≡ self.old }
+        ensures holds { (s : Spellings) → HoldsLines s self.old → line.now ≡ spelled_line s code → HoldsLines s self.new }
+    {
+        if self.len == MOST || line.len() >= self.text.room() {
+            return false;
+        }
+        self.text.push(line);
+        self.codes[self.len] = code;
+        self.len += 1;
+        self.starts[self.len] = self.text.len();
+        true
+    }
+
     /// Adds a code with its line, which is given in two parts, where there is room.
-    pub(crate) fn add(&mut self, code: Code, front: &[u8], rest: &[u8]) -> bool
+    pub(crate) fn add_parts(&mut self, code: Code, front: &[u8], rest: &[u8]) -> bool
         ensures codes { IsTrue result → self.new.codes ≡ self.old.codes ++ code ∷ [] }
         ensures full { result ≡ false → self.new ≡ self.old }
         ensures holds { (s : Spellings) → HoldsLines s self.old → front.now ++ rest.now ≡ spelled_line s code → HoldsLines s self.new }
@@ -81,6 +98,13 @@ impl HeldLines {
         true
     }
 
+    /// Whether there is room for these bytes behind the lines.
+    pub(crate) fn has_room(&self, bytes: &[u8]) -> bool
+        ensures { IsTrue result → length self.now.text + length bytes.now ≤ 32768 }
+    {
+        bytes.len() <= self.text.room()
+    }
+
     /// Hands the lines over.
     pub(crate) fn send<O: Sink>(&self, sink: &mut O) -> Result<(), Failed>
         ensures ok { OnOk result (Sends (progress (O.taken sink.old) [] (O.faults sink.old))
@@ -91,16 +115,17 @@ impl HeldLines {
         sink.write_lines(self.text.as_bytes())
     }
 
-    /// Hands the lines and an empty line over.
-    pub(crate) fn send_whole<O: Sink>(&mut self, sink: &mut O) -> Result<(), Failed>
+    /// Hands the lines over, and these bytes behind them.
+    pub(crate) fn send_whole<O: Sink>(&mut self, end: &[u8], sink: &mut O) -> Result<(), Failed>
+        requires { length self.old.text + length end.now ≤ 32768 }
         ensures ok { OnOk result (Sends (progress (O.taken sink.old) [] (O.faults sink.old))
-            (progress (O.taken sink.new) [] (O.faults sink.new)) (self.old.text ++ bytes_of "\n")) }
+            (progress (O.taken sink.new) [] (O.faults sink.new)) (self.old.text ++ end.now)) }
         ensures err { OnErr result (Fails (progress (O.taken sink.old) [] (O.faults sink.old))
-            (progress (O.taken sink.new) [] (O.faults sink.new)) (self.old.text ++ bytes_of "\n")) }
+            (progress (O.taken sink.new) [] (O.faults sink.new)) (self.old.text ++ end.now)) }
         ensures same { self.new ≡ self.old }
     {
         let len = self.text.len();
-        self.text.push(b"\n");
+        self.text.push(end);
         let sent = sink.write_lines(self.text.as_bytes());
         self.text.truncate(len);
         sent

@@ -1,6 +1,7 @@
 //! Skeletons, and codes of events, as text: one line for each event, and an empty line. Reading such a text is passed on from `line_reader`.
 #![tactic(auto)]
 
+mod closings;
 mod codes;
 mod collected;
 mod counted;

@@ -1,6 +1,9 @@
 // The text of a skeleton, how many pieces it is handed over in, and documents one after the other.
-ghost use Rattle.std.specs.Prelude.{◌≡◌};
+ghost use Rattle.std.specs.Prelude.{◌≡◌, ◌≤◌, [], List, map, take, OnOk};
+ghost use Rattle.rng_model.specs.Codes.{Code as CodeValue};
+ghost use Rattle.skeleton.specs.Views.{code_of as value_of};
 ghost use Rattle.event_lines.specs.Coded.{lists_of};
+ghost use Rattle.event_lines.specs.Held.{BeginsWith};
 ghost use Rattle.event_lines.specs.Spelled.{AreSpelled, AreSpellings};
 
 use event_lines::{
@@ -140,7 +143,7 @@ fn coded(
     if !are_in_range(codes, &universe, &atoms) {
         return Ok(None);
     }
-    let done = lines.write(codes, &mut sink).is_ok();
+    let done = lines.write(codes, 0, &mut sink).is_ok();
     let measure = measure(codes, &universe, &atoms);
     Ok(Some(measure).filter(|_| done && sink.taken() == bytes))
 }
@@ -222,15 +225,36 @@ fn code_of(letter: u8) -> Code {
     }
 }
 
-/// The codes that letters stand for, so many times.
-fn codes_of(alloc: Global, letters: &str, times: usize) -> Result<Vec<Code>, Fail> {
+/// The codes that letters stand for, so many times, and so many Closing codes behind them.
+fn codes_of(
+    alloc: Global,
+    letters: &str,
+    times: usize,
+    closings: usize,
+) -> Result<Vec<Code>, Fail> {
     let mut codes = Vec::new(alloc);
     for _ in 0..times {
         for letter in letters.as_bytes() {
             codes.push(code_of(*letter))?;
         }
     }
+    for _ in 0..closings {
+        codes.push(Code::Closing)?;
+    }
     Ok(codes)
+}
+
+/// How many codes the two share at their front, up to so many.
+#[tactic(auto, using(crate::proofs::Shared::shared))]
+fn shared_len(last: &[Code], codes: &[Code], most: usize) -> usize
+    ensures { (held : List CodeValue) → BeginsWith (map value_of last.now) held → BeginsWith (map value_of codes.now) (take result held) }
+{
+    for (i, code) in last.iter().enumerate() {
+        if i == most || i == codes.len() || codes[i] != *code {
+            return i;
+        }
+    }
+    last.len()
 }
 
 /// The atoms of a schema without literals, and of one text more.
@@ -243,6 +267,7 @@ fn atoms(alloc: Global, extra: Text) -> Result<Atoms, Fail> {
 /// Whether a document is taken line by line, behind what was taken before, where the piece of this number, counted from 0, fails.
 fn is_taken(
     codes: &[Code],
+    unchanged: usize,
     long: &str,
     failing: u64,
     lines: &mut DocumentLines,
@@ -250,37 +275,44 @@ fn is_taken(
     wanted: &mut Vec<u8>,
     sink: &mut MemSink,
 ) -> Result<bool, Fail>
-    requires { AreSpelled lines.old codes.now }
-    ensures { lines.new ≡ lines.old }
+    requires spelled { AreSpelled lines.old.spellings codes.now }
+    requires unchanged { BeginsWith (map value_of codes.now) (take unchanged lines.old.codes) }
+    ensures spellings { lines.new.spellings ≡ lines.old.spellings }
+    ensures held { OnOk result (BeginsWith (map value_of codes.now) lines.new.codes) }
 {
     let whole = add_lines(wanted, codes, long, pieces, failing)?;
-    let done = lines.write(codes, sink).is_ok();
+    let done = lines.write(codes, unchanged, sink).is_ok();
     Ok(done == whole && sink.taken() == wanted.as_slice())
 }
 
 /// Whether the documents, written one after the other, are taken line by line, where the piece of this number, counted from 0, fails.
+/// Of the codes that a document shares with the last one as many are given as unchanged as there are, up to so many.
 fn are_taken(
     alloc: Global,
-    documents: &[(&str, usize)],
+    documents: &[(&str, usize, usize)],
+    most: usize,
     failing: u64,
     universe: &Universe,
     atoms: &Atoms,
     lines: &mut DocumentLines,
     sink: &mut MemSink,
 ) -> Result<bool, Fail>
-    requires { AreSpellings (lists_of universe.now atoms.now) lines.old }
+    requires spelled { AreSpellings (lists_of universe.now atoms.now) lines.old.spellings }
+    requires none { lines.old.codes ≡ [] }
 {
     let characters = "y".repeat(alloc, 1000)?;
     let long = format!(in alloc; "-{characters}\n")?;
     let mut wanted = Vec::new(alloc);
     let mut pieces = 0;
-    for (letters, times) in documents {
-        let codes = codes_of(alloc, letters, *times)?;
+    let mut last = Vec::new(alloc);
+    for (letters, times, closings) in documents {
+        let codes = codes_of(alloc, letters, *times, *closings)?;
         if !are_in_range(codes.as_slice(), universe, atoms) {
             return Ok(false);
         }
         let is_right = is_taken(
             codes.as_slice(),
+            shared_len(last.as_slice(), codes.as_slice(), most),
             long.as_str(),
             failing,
             lines,
@@ -291,12 +323,18 @@ fn are_taken(
         if !is_right {
             return Ok(false);
         }
+        last = codes;
     }
     Ok(true)
 }
 
 /// Whether the documents are taken so by a sink of whose calls the one of this number fails.
-fn in_turn(alloc: Global, documents: &[(&str, usize)], failing: u64) -> Result<bool, Fail> {
+fn in_turn(
+    alloc: Global,
+    documents: &[(&str, usize, usize)],
+    most: usize,
+    failing: u64,
+) -> Result<bool, Fail> {
     let universe = universe(alloc)?;
     let atoms = atoms(alloc, Text::from_string("y".repeat(alloc, 1000)?))?;
     let mut lines = DocumentLines::of(alloc, &universe, &atoms)?;
@@ -304,40 +342,83 @@ fn in_turn(alloc: Global, documents: &[(&str, usize)], failing: u64) -> Result<b
     calls.push(failing)?;
     let mut sink = MemSink::new(alloc, 400_000, calls, 40_000)?;
     are_taken(
-        alloc, documents, failing, &universe, &atoms, &mut lines, &mut sink,
+        alloc, documents, most, failing, &universe, &atoms, &mut lines, &mut sink,
     )
 }
 
 #[test]
 fn documents_in_turn(rt: HostRuntime) -> Result<(), Fail> {
-    // What is written, by a letter for each code, and how many times over. Among them are more bytes than are held, as many codes, and
-    // more codes.
+    // What is written, by a letter for each code, how many times over, and how many Closing codes more there are at the end. Among them
+    // are more bytes than are held, as many codes, and more codes.
     let documents = [
-        ("(>)", 1),
-        ("(A>)", 1),
-        ("(A>-)", 1),
-        ("(A>", 1),
-        ("(A>-)", 1),
-        ("(>)", 1),
-        ("(>))", 1),
-        ("", 1),
-        ("(>))", 1),
-        ("(>+)", 1),
-        ("+", 40),
-        ("(>+)", 1),
-        (">", 256),
-        (">", 257),
-        (">", 257),
-        ("+", 40),
-        ("+", 40),
-        ("(A>-)", 1),
-        ("(A>-)", 1),
+        ("(>)", 1, 0),
+        ("(A>)", 1, 0),
+        ("(A>-)", 1, 0),
+        ("(A>", 1, 0),
+        ("(A>-)", 1, 0),
+        ("(>)", 1, 0),
+        ("(>)", 1, 1),
+        ("", 1, 0),
+        ("(>))", 1, 0),
+        ("(>+)", 1, 0),
+        ("+", 40, 0),
+        ("(>+)", 1, 0),
+        (">", 256, 0),
+        (">", 257, 0),
+        (">", 257, 0),
+        ("+", 40, 0),
+        ("+", 40, 0),
+        ("(A>-)", 1, 0),
+        ("(A>-)", 1, 0),
     ];
-    // No piece fails; then one of the first documents, of the long ones, and of the last.
-    for failing in [
-        10_000, 0, 4, 6, 9, 15, 60, 75, 90, 95, 330, 360, 604, 900, 955,
+    // No piece fails; then one of the first documents, of the long ones, and of the last. Of the codes that a document shares with the
+    // last one none are given as unchanged, or two, or all.
+    for (failing, most) in [
+        (10_000, 0),
+        (10_000, 2),
+        (10_000, 1000),
+        (0, 1000),
+        (4, 2),
+        (6, 1000),
+        (9, 1000),
+        (15, 0),
+        (60, 1000),
+        (75, 1000),
+        (90, 1000),
+        (95, 1000),
+        (330, 1000),
+        (360, 2),
+        (604, 1000),
+        (900, 1000),
+        (955, 1000),
     ] {
-        assert!(rt; in_turn(rt.alloc(), &documents, failing)?);
+        assert!(rt; in_turn(rt.alloc(), &documents, most, failing)?);
+    }
+    Ok(())
+}
+
+#[test]
+fn many_closings(rt: HostRuntime) -> Result<(), Fail> {
+    // Documents that end in as many Closing codes as are handed over at once, in more, and in one more than there is room for.
+    let documents = [
+        ("(>", 40, 40),
+        ("(>", 40, 33),
+        ("(>", 40, 32),
+        ("(>)", 1, 300),
+        (">", 256, 32),
+        (">", 257, 32),
+        ("+A---", 32, 15),
+        ("+A---", 32, 16),
+    ];
+    for (failing, most) in [
+        (10_000, 0),
+        (10_000, 1000),
+        (120, 1000),
+        (347, 1000),
+        (1240, 1000),
+        (1580, 1000),
+    ] {
+        assert!(rt; in_turn(rt.alloc(), &documents, most, failing)?);
     }
     Ok(())
 }
