@@ -14,7 +14,8 @@ use Rattle.lister.specs.Walks.{AreStates}
 use Rattle.lister.specs.Paths.{Path, IsKept}
 use Rattle.lister.specs.OpenElements.{open_at, closings, ending_codes}
 use Rattle.lister.specs.Descents.{listed_codes, LeadsUpTo, Descends, Completes}
-use Rattle.lister.proofs.Steps.{get_within, whole_with}
+use Rattle.lister.proofs.Items.{get_within}
+use Rattle.lister.proofs.Steps.{whole_with}
 use Rattle.lister.proofs.Retreating.{tail_nothing}
 
 pub closings_length : (d : ℕ) → length (closings d) ≡ d

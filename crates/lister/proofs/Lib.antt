@@ -1,9 +1,11 @@
+pub mod Items
 pub mod Tails
 pub mod Steps
 pub mod Retreating
 pub mod Follows
 pub mod Growing
 pub mod Popping
+pub mod Standings
 pub mod Completing
 pub mod Starting
 pub mod Arriving

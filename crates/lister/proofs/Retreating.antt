@@ -1,5 +1,5 @@
 -- The way back along a path, from the end of a document to the last code above which there is another.
-use Rattle.std.proofs.Common.{◌≡◌, ◌≢◌, ℕ, zero, suc, ◌+◌, ◌*◌, ◌≤◌, List, [], ◌∷◌, ◌++◌, length, take, drop, length-append, append_assoc, append-nil, refl, sym, ◌∙◌, ap, subst, arith, Some, slice_get, IsTrue}
+use Rattle.std.proofs.Common.{◌≡◌, ◌≢◌, ℕ, ◌+◌, ◌*◌, ◌≤◌, List, [], ◌∷◌, ◌++◌, length, take, drop, length-append, append_assoc, append-nil, refl, sym, ◌∙◌, ap, subst, arith, Some, slice_get, IsTrue}
 use Rattle.std.specs.List.{AllByRecursion}
 use Rattle.std.proofs.Math.Seq.{take-append_seam, drop-append_seam}
 use Rattle.std.proofs.lemmas.List.{take-append-le, take-append-drop}
@@ -24,16 +24,7 @@ use Rattle.lister.specs.Walks.{AreStates}
 use Rattle.lister.specs.Paths.{Path, with_step, IsBack}
 use Rattle.lister.specs.Descents.{listed_codes, LeadsUpTo, IsDocument, GoesBack}
 use Rattle.lister.proofs.Tails.{tail_is}
-use Rattle.lister.proofs.Steps.{get_within}
-
-get_left : {X : Type 0} (xs ys : List X) (k : ℕ) (x : X) → slice_get xs k ≡ Some x → slice_get (xs ++ ys) k ≡ Some x
-get_left [] ys k x e = absurd (cc)
-get_left (z ∷ xs) ys zero x e = e
-get_left (z ∷ xs) ys (suc k) x e = get_left xs ys k x e
-
-get_seam : {X : Type 0} (xs : List X) (x : X) (ys : List X) → slice_get (xs ++ (x ∷ ys)) (length xs) ≡ Some x
-get_seam [] x ys = refl
-get_seam (z ∷ xs) x ys = get_seam xs x ys
+use Rattle.lister.proofs.Items.{get_within, get_left, get_seam}
 
 -- The way back from the old path's end: behind the states that are left nothing is above the old codes.
 pub record Retreats (t : Table) (old cur : Path) (left : ℕ) : Type 0 where
@@ -45,6 +36,9 @@ pub record Retreats (t : Table) (old cur : Path) (left : ℕ) : Type 0 where
   pub states : old.states ≡ cur.states ++ ids
   pub nothing : NothingAbove (listed_codes t (nodes old.codes)) (take (length cur.states) old.codes) (drop (length cur.states) old.codes)
   pub rest : nodes (drop (length cur.states) old.codes) ≡ left
+
+not_less_code : (c : Code) → code_cmp c c ≢ Less
+not_less_code c e = let f : code_cmp c c ≡ Equal = tied_itself code_order c in let h : Equal ≡ Less = sym f ∙ e in absurd (cc)
 
 not_less_itself : (cs : List Code) → codes_cmp cs cs ≢ Less
 not_less_itself cs e = let f : codes_cmp cs cs ≡ Equal = tied_itself (lists_total code_order) cs in let h : Equal ≡ Less = sym f ∙ e in absurd (cc)
@@ -168,7 +162,11 @@ module _ (t : Table) (are : AreListable t.schema (lists t)) where
         }
 
     pub turned : (x : Code) (next : ℕ) → IsNextTaken t id (Some c) now x next → GoesBack t (nodes old.codes) old (with_step new id x)
-    turned x next h = record { room = b.room ∙ r.room; next = go }
+    turned x next h = record {
+      room = b.room ∙ r.room;
+      turns = record { front = new.codes; last = x; new_is = refl; was = c; behind = behind; old_is = whole; other = λ e. not_less_code c (subst (λ y. code_cmp c y ≡ Less) e h.past) };
+      next = go;
+    }
       where
         above : IsNextCode (listed_codes t (nodes old.codes)) new.codes c x
         above = subst (λ k. IsNextCode (listed_codes t k) new.codes c x) size_back

@@ -1,5 +1,5 @@
 -- A path through the states of a table, step by step.
-use Rattle.std.proofs.Common.{◌≡◌, ◌≢◌, ℕ, zero, suc, ◌+◌, ◌-◌, ◌*◌, ◌<◌, ◌≤◌, List, [], ◌∷◌, ◌++◌, length, take, length-append, append_assoc, append-nil, refl, sym, ◌∙◌, ap, subst, arith, Some, None, slice_get, IsTrue, ◌⊎◌, inl, inr}
+use Rattle.std.proofs.Common.{◌≡◌, ◌≢◌, ℕ, ◌+◌, ◌-◌, ◌*◌, ◌<◌, ◌≤◌, List, [], ◌∷◌, ◌++◌, length, take, length-append, append_assoc, append-nil, refl, sym, ◌∙◌, ap, subst, arith, None, IsTrue, ◌⊎◌, inl, inr}
 use Rattle.std.specs.List.{AllByRecursion}
 use Rattle.std.proofs.Math.Seq.{take-append_seam}
 use Rattle.std.proofs.lemmas.List.{take-append-le}
@@ -24,29 +24,7 @@ use Rattle.lister.specs.Paths.{Path, with_step}
 use Rattle.lister.specs.OpenElements.{open_at, ending_codes}
 use Rattle.lister.specs.Descents.{listed_codes, LeadsUpTo, Descends}
 use Rattle.lister.proofs.Tails.{tail_is}
-
--- an item of a list with one more is one of the list or the new one
-data IsOneMore {X : Type 0} (xs : List X) (y : X) (k : ℕ) (x : X) : Type 0 where
-  old : slice_get xs k ≡ Some x → IsOneMore xs y k x
-  new : k ≡ length xs → x ≡ y → IsOneMore xs y k x
-
-pub some_same : {X : Type 0} (x y : X) → Some x ≡ Some y → x ≡ y
-some_same x y e = cc
-
-one_more : {X : Type 0} (xs : List X) (y : X) (k : ℕ) (x : X) → slice_get (xs ++ (y ∷ [])) k ≡ Some x → IsOneMore xs y k x
-one_more [] y zero x e = new refl (cc)
-one_more [] y (suc k) x e = absurd (cc)
-one_more (z ∷ xs) y zero x e = old e
-one_more (z ∷ xs) y (suc k) x e = go (one_more xs y k x e)
-  where
-    go : IsOneMore xs y k x → IsOneMore (z ∷ xs) y (suc k) x
-    go (old f) = old f
-    go (new f h) = new (omega arith) h
-
-pub get_within : {X : Type 0} (xs : List X) (k : ℕ) (x : X) → slice_get xs k ≡ Some x → k < length xs
-get_within [] k x e = absurd (cc)
-get_within (y ∷ xs) zero x e = omega arith
-get_within (y ∷ xs) (suc k) x e = let l = get_within xs k x e in omega arith
+use Rattle.lister.proofs.Items.{IsOneMore, old, new, one_more, get_within}
 
 module _ (t : Table) (are : AreListable t.schema (lists t)) where
   -- a beginning that can finish goes on to a document

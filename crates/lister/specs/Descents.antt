@@ -1,5 +1,5 @@
 -- The walk to the least codes behind a beginning, and back to the last code above which there is another: this project's own.
-use Rattle.std.specs.Prelude.{◌≡◌, ℕ, ◌+◌, ◌≤◌, List, ◌++◌, length}
+use Rattle.std.specs.Prelude.{◌≡◌, ◌≢◌, ℕ, ◌+◌, ◌≤◌, List, [], ◌∷◌, ◌++◌, length}
 use Rattle.std.specs.List.{AllByRecursion}
 use Rattle.rng_model.specs.Codes.{Code, nodes, IsInRange}
 use Rattle.rng_model.specs.States.{after_codes}
@@ -50,7 +50,19 @@ pub record Completes (t : Table) (n : ℕ) (old new : Path) : Type 0 where
   pub states : AreStates t new.codes new.states
   pub kept : IsKept new
 
--- the next document of size n after the old path's begins with the new path, and goes on with the least codes
+-- the new codes are a front of the old ones, and one code more, which is another one than in the old ones
+pub record TurnsLast (old new : List Code) : Type 0 where
+  pub front : List Code
+  pub last : Code
+  pub new_is : new ≡ front ++ (last ∷ [])
+  pub was : Code
+  pub behind : List Code
+  pub old_is : old ≡ front ++ (was ∷ behind)
+  pub other : last ≢ was
+
+-- the next document of size n after the old path's begins with the new path, whose last code is another one than there, and goes on with the
+-- least codes
 pub record GoesBack (t : Table) (n : ℕ) (old new : Path) : Type 0 where
   pub room : new.room ≡ old.room
+  pub turns : TurnsLast old.codes new.codes
   pub next : (more : List Code) → IsLeastRest (listed_codes t n) new.codes more → IsNextList (listed_codes t n) old.codes (new.codes ++ more)

@@ -1,6 +1,6 @@
--- The end of a document in which no node is left: this project's own.
+-- What is open after codes, and the end of a document in which no node is left: this project's own.
 use Rattle.std.specs.Prelude.{Bool, true, false, ℕ, ◌+◌, ◌-◌, List, [], ◌∷◌, ◌++◌, zero, suc}
-use Rattle.lister.specs.declared.closing.Standing.{Standing}
+use Rattle.lister.specs.declared.standing.Standing.{Standing}
 use Rattle.rng_model.specs.Codes.{Code, Opening, Attr, Body, Chars, Closing}
 
 -- how many elements are open, and whether the tag of the innermost one is
@@ -23,9 +23,12 @@ abbrev pub opened : Open → List Code → Open
 opened o [] = o
 opened o (c ∷ cs) = opened (open_after o c) cs
 
+abbrev pub nothing_open : Open
+nothing_open = record { depth = 0; in_tag = false }
+
 -- what is open after the codes from the start
 abbrev pub open_at : List Code → Open
-open_at = opened (record { depth = 0; in_tag = false })
+open_at = opened nothing_open
 
 abbrev pub body_if : Bool → List Code
 body_if true = Body ∷ []

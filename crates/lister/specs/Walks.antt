@@ -1,5 +1,5 @@
 -- What contracts see of a lister: this project's own.
-use Rattle.std.specs.Prelude.{◌≡◌, ℕ, ⊤, List, [], take, slice_get, Some}
+use Rattle.std.specs.Prelude.{◌≡◌, ◌≢◌, ℕ, ⊤, List, [], take, slice_get, Some}
 use Rattle.rng_model.specs.Hedges.{Skeleton, size}
 use Rattle.rng_model.specs.Events.{events}
 use Rattle.rng_model.specs.Codes.{Code, AreCodes}
@@ -16,11 +16,12 @@ pub data Stage : Type 0 where
   at : (codes : List Code) (states : List ℕ) → Stage
   past : Stage
 
--- the greatest size, the size of the walk, and its stage
+-- the greatest size, the size of the walk, its stage, and how many codes of its document stand as in the one before
 pub record Walk : Type 0 where
   pub room : ℕ
   pub size : ℕ
   pub stage : Stage
+  pub unchanged : ℕ
 
 -- the numbers are those of the states before and after each of the codes
 pub record AreStates (t : Table) (codes : List Code) (states : List ℕ) : Type 0 where
@@ -53,6 +54,17 @@ GoesToNext t n (Stage.at codes states) (Stage.at next more) =
 GoesToNext t n (Stage.at codes states) Stage.past = (s : Skeleton) → AreCodes (lists t) (events s) codes → size s ≡ n → GoesThrough t.schema (lists t) n s []
 GoesToNext t n Stage.past Stage.past = ⊤
 GoesToNext t n _ _ = ⊥
+
+-- the first k codes of a document are those of the one before it, and none are those of one before the first
+abbrev pub KeepsFront : Stage → ℕ → Stage → Type 0
+KeepsFront (Stage.at codes states) k (Stage.at next more) = take k next ≡ take k codes
+KeepsFront Stage.before k (Stage.at next more) = k ≡ 0
+KeepsFront _ k _ = ⊤
+
+-- the code behind the first k is another one than in the document before
+abbrev pub ChangesAt : Stage → ℕ → Stage → Type 0
+ChangesAt (Stage.at codes states) k (Stage.at next more) = slice_get next k ≢ slice_get codes k
+ChangesAt _ k _ = ⊤
 
 -- the walk stands at a document
 abbrev pub IsAtOne : Stage → Type 0

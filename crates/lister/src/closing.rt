@@ -1,8 +1,8 @@
 // The end of a document in which no node is left.
-ghost use Rattle.std.specs.Prelude.{◌≡◌, ◌+◌, ◌++◌, ◌*◌, ◌≤◌, ◌<◌, map, length};
+ghost use Rattle.std.specs.Prelude.{◌≡◌, ◌+◌, ◌++◌, ◌*◌, ◌≤◌, length};
 ghost use Rattle.table_laws.specs.Reaching.{weight};
 ghost use Rattle.skeleton.specs.Views.{code_of};
-ghost use Rattle.lister.specs.OpenElements.{open_after, open_at, open_of, body_if, ending_codes};
+ghost use Rattle.lister.specs.OpenElements.{open_at, body_if, ending_codes};
 
 use crate::path::Path;
 use skeleton::Code;
@@ -15,54 +15,6 @@ pub(crate) fn nodes(code: Code) -> usize
         Code::Body | Code::Closing => 0,
         Code::Chars(_) | Code::Attr(_, _) | Code::Opening(_) => 1,
     }
-}
-
-/// How many elements are open after some codes, and whether the tag of the innermost one is.
-#[derive(Clone, Copy)]
-struct Standing {
-    depth: usize,
-    in_tag: bool,
-}
-
-// What is open after one code more.
-fn after(standing: Standing, code: Code) -> Standing
-    requires { standing.depth < 1000 }
-    ensures { open_of result ≡ open_after (open_of standing) (code_of code) }
-{
-    let depth = standing.depth;
-    match code {
-        Code::Opening(_) => Standing {
-            depth: depth + 1,
-            in_tag: true,
-        },
-        Code::Attr(_, _) => Standing {
-            depth,
-            in_tag: true,
-        },
-        Code::Body | Code::Chars(_) => Standing {
-            depth,
-            in_tag: false,
-        },
-        Code::Closing => Standing {
-            depth: depth.saturating_sub(1),
-            in_tag: false,
-        },
-    }
-}
-
-// What is open after the codes.
-fn open_elements(codes: &[Code]) -> Standing
-    requires { length codes.now < 1000 }
-    ensures { open_of result ≡ open_at (map code_of codes.now) }
-{
-    let mut open = Standing {
-        depth: 0,
-        in_tag: false,
-    };
-    for code in codes {
-        open = after(open, *code);
-    }
-    open
 }
 
 // Ends the tag, if one is open.
@@ -84,8 +36,7 @@ pub(crate) fn close_all(path: &mut Path)
     ensures states { path.new.states ≡ path.old.states }
     ensures room { path.new.room ≡ path.old.room }
 {
-    let _most = path.room();
-    let open = open_elements(path.codes());
+    let open = path.standing();
     close_tag(path, open.in_tag);
     for _ in 0..open.depth {
         path.push(Code::Closing);

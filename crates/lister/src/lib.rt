@@ -7,5 +7,6 @@ mod following;
 mod lister;
 mod next;
 mod path;
+mod standing;
 
 pub use lister::Lister;

@@ -8,7 +8,7 @@ ghost use Rattle.rng_model.specs.Codes.{AreCodes};
 ghost use Rattle.rng_model.specs.Listing.{IsListed};
 ghost use Rattle.skeleton.specs.Views.{code_of};
 ghost use Rattle.feasibility.specs.Tables.{lists};
-ghost use Rattle.lister.specs.Walks.{Stage, IsWalkOf, IsWalkOfGrown, IsStep, GoesToNext, IsSet, IsAt, IsAtOne};
+ghost use Rattle.lister.specs.Walks.{Stage, IsWalkOf, IsWalkOfGrown, IsStep, GoesToNext, IsSet, IsAt, IsAtOne, KeepsFront, ChangesAt};
 
 use crate::following::follow;
 use crate::next::{Phase, find};
@@ -26,6 +26,7 @@ pub struct Lister {
     size: usize,
     phase: Phase,
     path: Path,
+    unchanged: usize,
 }
 
 impl Model for Lister {
@@ -34,7 +35,7 @@ impl Model for Lister {
 
     ghost Value = { Walk };
 
-    ghost view = { λ l. record { room = l.path.room; size = l.size; stage = stage_of l.phase l.path } };
+    ghost view = { λ l. record { room = l.path.room; size = l.size; stage = stage_of l.phase l.path; unchanged = l.unchanged } };
 
     ghost invariant = { λ l. IsSound l.phase l.size l.path };
 }
@@ -52,6 +53,7 @@ impl Lister {
             size: 0,
             phase: Phase::Nowhere,
             path,
+            unchanged: 0,
         })
     }
 
@@ -94,6 +96,8 @@ impl Lister {
         ensures documents { GoesToNext table.now self.old.size self.old.stage self.new.stage }
         ensures step { IsStep table.now self.old.size self.old.stage self.new.stage }
         ensures found { IsTrue result ↔ IsAtOne self.new.stage }
+        ensures unchanged { KeepsFront self.old.stage self.new.unchanged self.new.stage }
+        ensures exact { ChangesAt self.old.stage self.new.unchanged self.new.stage }
         ensures own { IsWalkOf table.now self.new.size self.new.stage }
         ensures grows { IsWalkOfGrown table.now self.new.size self.new.stage }
         ensures same { (self.new.room ≡ self.old.room) × (self.new.size ≡ self.old.size) }
@@ -101,8 +105,13 @@ impl Lister {
     {
         table.holds();
         let found = find(&mut self.path, self.phase, self.size, table, steps);
-        self.phase = if found { Phase::At } else { Phase::Past };
-        found
+        self.phase = if found.is_some() {
+            Phase::At
+        } else {
+            Phase::Past
+        };
+        self.unchanged = found.unwrap_or(0);
+        found.is_some()
     }
 
     /// The codes of the document at which the walk stands.
@@ -111,5 +120,13 @@ impl Lister {
         ensures { IsAt self.now.stage (map code_of result.now) }
     {
         self.path.codes()
+    }
+
+    /// How many codes of the document that `next` found, from the first on, stand as in the one before it in the walk: none, where it is the
+    /// first of a size.
+    pub fn unchanged(&self) -> usize
+        ensures { result ≡ self.now.unchanged }
+    {
+        self.unchanged
     }
 }

@@ -20,13 +20,6 @@ push_step-requires-clause-codes g c =
     let t = c.in-Some.ensures.some in
     room_for c.args.table.now c.holds.ensures.listable _ _ _ _ _ c.loop-rest.invariant.leads t.takes t.leads
 
-pub push_step-requires-clause-states : goal.push_step-requires-clause-states
-push_step-requires-clause-states g c =
-    let t = c.in-Some.ensures.some in
-    let r = room_for c.args.table.now c.holds.ensures.listable _ _ _ _ _ c.loop-rest.invariant.leads t.takes t.leads in
-    let e = c.loop-rest.invariant.leads.level in
-    omega arith
-
 pub loop-rest-smaller : goal.loop-rest-smaller
 loop-rest-smaller g c =
     let t = c.in-Some.ensures.some in

@@ -41,17 +41,6 @@ push_step-requires-clause-codes g c =
     let found = c.in-Some-next_code.ensures.some in
     room_for t are _ _ now _ _ l found.takes found.leads
 
-pub push_step-requires-clause-states : goal.push_step-requires-clause-states
-push_step-requires-clause-states g c =
-    let t = c.args.table.now in
-    let are = c.holds.ensures.listable in
-    let now = c.loop-id.rest + c.nodes-rest.result in
-    let l = leads_back t are _ _ _ _ now _ _ c.requires c.loop-id.invariant.back c.in-Some.ensures.some (omega (arith, c.nodes-rest.ensures)) in
-    let found = c.in-Some-next_code.ensures.some in
-    let r = room_for t are _ _ now _ _ l found.takes found.leads in
-    let v = l.level in
-    omega arith
-
 pub returns-in-Some-next_code-clause-next : goal.returns-in-Some-next_code-clause-next
 returns-in-Some-next_code-clause-next g c =
     rw c.push_step.ensures (turned c.args.table.now c.holds.ensures.listable _ _ _ _ _ _ _ c.requires c.loop-id.invariant.back c.in-Some.ensures.some (omega (arith, c.nodes-rest.ensures)) _ _

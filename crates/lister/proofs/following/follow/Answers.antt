@@ -64,18 +64,6 @@ push_step-requires-clause-codes g c =
     let takes = takes_code t are c.args.cursor.now _ c.requires.listed _ _ _ _ _ _ at i.codes code i.leads i.size in
     room_for t are _ _ _ _ _ i.leads takes c.in-Some-successor.ensures.some
 
-pub push_step-requires-clause-states : goal.push_step-requires-clause-states
-push_step-requires-clause-states g c =
-    let t = c.args.table.now in
-    let are = c.holds.ensures.listable in
-    let at = event_at event_of _ _ _ _ c.events-event-items.ensures.events c.loop-event-test.true c.event-item.is in
-    let code : IsCode (lists t) (event_of c.event-item.result) (code_of c.in-Some-find_code.code) = code_for t _ _ _ _ c.universe.ensures c.atoms.ensures c.in-Some-find_code.ensures.found in
-    let i = c.loop-event.invariant in
-    let takes = takes_code t are c.args.cursor.now _ c.requires.listed _ _ _ _ _ _ at i.codes code i.leads i.size in
-    let r = room_for t are _ _ _ _ _ i.leads takes c.in-Some-successor.ensures.some in
-    let v = i.leads.level in
-    omega arith
-
 pub loop-event-preserved : goal.loop-event-preserved
 loop-event-preserved g c =
     let t = c.args.table.now in
