@@ -23,6 +23,8 @@ pub(crate) enum Sample {
     Interleaved,
     /// `element r { element a { "x" } | element a { "x" | "y" } }`
     Ambiguous,
+    /// `element a { attribute b { text }?, element b { text } }`
+    Behind,
     /// `element a`, whose content is forty times the group of the content so far with itself, at first `element b { empty }`
     Doubled,
 }
@@ -81,6 +83,16 @@ fn ambiguous(pool: &mut Pool) -> Result<Vec<Element>, AllocError> {
     made(pool, &[("r", content), ("a", x), ("a", either)])
 }
 
+fn behind(pool: &mut Pool) -> Result<Vec<Element>, AllocError> {
+    let attribute = text_in_b(pool)?;
+    let (attribute, empty) = (known(pool, attribute), pool.empty());
+    let first = pool.choice(attribute, empty)?;
+    let second = pool.reference(1)?;
+    let (first, second) = (known(pool, first), known(pool, second));
+    let content = pool.group(first, second)?;
+    made(pool, &[("a", content), ("b", pool.any_text())])
+}
+
 fn doubled(pool: &mut Pool) -> Result<Vec<Element>, AllocError> {
     let mut content = pool.reference(1)?;
     for _ in 0..40 {
@@ -98,6 +110,7 @@ fn elements(pool: &mut Pool, sample: Sample) -> Result<Vec<Element>, AllocError>
         Sample::Attribute => attribute(pool),
         Sample::Interleaved => interleaved(pool),
         Sample::Ambiguous => ambiguous(pool),
+        Sample::Behind => behind(pool),
         Sample::Doubled => doubled(pool),
     }
 }

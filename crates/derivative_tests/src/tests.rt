@@ -1,6 +1,6 @@
 // Where codes lead, by the equations of derivatives and the table of states.
 use crate::samples::Sample;
-use crate::walks::{Lead, Wanted, leads};
+use crate::walks::{Lead, NextPieces, Wanted, leads, takes};
 use Code::{Attr, Body, Chars, Closing, Opening};
 use Lead::{Nowhere, On, To};
 use Place::{AfterElement, AfterText, Fresh, Tag};
@@ -114,6 +114,38 @@ fn ways(rt: HostRuntime) -> Result<(), Fail> {
     for (i, (sample, codes, lead)) in rows.iter().enumerate() {
         let holds = leads(rt.alloc(), *sample, *codes, *lead)?;
         assert!(rt; holds, "row {i}");
+    }
+    Ok(())
+}
+
+#[test]
+fn what_may_be_taken(rt: HostRuntime) -> Result<(), Fail> {
+    // Whether an element may be opened, and whether a text may be taken.
+    let rows: [(Sample, &[Code], (bool, bool)); 7] = [
+        (Sample::Optional, &[], (true, false)),
+        (Sample::Optional, &[Opening(0), Body], (true, false)),
+        (Sample::Optional, EMPTY, (false, false)),
+        (Sample::Behind, &[Opening(0)], (true, false)),
+        (
+            Sample::Behind,
+            &[Opening(0), Body, Opening(1)],
+            (false, true),
+        ),
+        (
+            Sample::Interleaved,
+            &[Opening(0), Body, Opening(1), Body],
+            (false, false),
+        ),
+        (
+            Sample::Interleaved,
+            &[Opening(0), Body, Opening(1), Body, Closing],
+            (true, false),
+        ),
+    ];
+    for (i, (sample, codes, (element, text))) in rows.iter().enumerate() {
+        let taken = takes(rt.alloc(), *sample, *codes)?;
+        let (element, text) = (*element, *text);
+        assert!(rt; taken == Some(NextPieces { element, text }), "row {i}");
     }
     Ok(())
 }

@@ -141,3 +141,32 @@ pub(crate) fn leads(
     drop(derivatives);
     holds
 }
+
+/// What the pattern may take next.
+#[derive(Clone, Copy, PartialEq)]
+pub(crate) struct NextPieces {
+    pub(crate) element: bool,
+    pub(crate) text: bool,
+}
+
+fn takes_there(derivatives: &mut Derivatives, codes: &[Code]) -> Result<Option<NextPieces>, Fail> {
+    let Some(state) = walk::<Brand>(derivatives, codes, Blank::new(1))? else {
+        return Ok(None);
+    };
+    let pattern = known(derivatives.schema().pool(), state.pattern);
+    let text = derivatives.takes_text(pattern)?;
+    let element = derivatives.takes_element(pattern)?;
+    Ok(Some(NextPieces { element, text }))
+}
+
+/// What may be taken after the codes from the start of the sample, none where they lead nowhere.
+pub(crate) fn takes(
+    alloc: Global,
+    sample: Sample,
+    codes: &[Code],
+) -> Result<Option<NextPieces>, Fail> {
+    let mut derivatives = derivatives(alloc, sample)?;
+    let taken = takes_there(&mut derivatives, codes);
+    drop(derivatives);
+    taken
+}

@@ -11,6 +11,7 @@ use Rattle.rng_model.specs.Derivatives.{opening, where_true}
 use Rattle.table_laws.specs.Heads.{choices_of}
 use Rattle.table_laws.specs.Remainders as law
 use Rattle.table_laws.specs.Remainders.{AreSame, entered, entered_at, remainders}
+use Rattle.table_laws.proofs.SameRemainders.{same_refl}
 use Rattle.pattern_intern.specs.Ordered.{IsOrdered}
 use Rattle.pattern_intern.specs.Schemas.{Numbered, definition_at}
 use Rattle.pattern_intern.specs.Stored.{Extends, count, tree_at}
@@ -99,3 +100,7 @@ pub opening_made : {E : Type 0} (r : Result PatternId E) → OpeningLaw → (old
 opening_made (Ok made) law old mid now n id xs set e same inside m =
     m ∙ sym (law mid.schema n (tree_at mid.pool id.0) (remainders_of mid.pool xs) set.pairs.same) ∙ (λ k. opening (same k) n (e.kept id.0 inside k))
 opening_made (Err x) law old mid now n id xs set e same inside m = tt
+
+-- an opening that none of a pattern's remainders allows leads nowhere
+pub opening_nowhere : OpeningLaw → (g : Schema) (n : Name) (p : Pattern) → remainders p ≡ [] → opening g n p ≡ not_allowed
+opening_nowhere law g n p e = law g n p [] (subst (AreSame []) (sym e) (same_refl []))

@@ -11,3 +11,4 @@ pub mod Adding
 pub mod RemainderSets
 pub mod Gathered
 pub mod Entering
+pub mod OneNames

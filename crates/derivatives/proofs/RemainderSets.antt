@@ -1,18 +1,21 @@
 -- Remainders by numbers: they stay as the pool grows, and as some are added; sets of them stay right.
-use Rattle.std.proofs.Common.{◌≡◌, ◌<◌, Bool, true, false, cond, List, [], ◌∷◌, Some, All, Result, Ok, Err, OnOk, OnErr, length, refl, sym, ◌∙◌, ap, subst, arith}
+use Rattle.std.proofs.Common.{◌≡◌, ◌+◌, ◌-◌, ◌<◌, ◌≤◌, Bool, true, false, cond, List, [], ◌∷◌, ◌++◌, Option, Some, None, is_some, All, Contains, length, take, drop, take_all, refl, sym, ◌∙◌, ap, subst, arith}
+use Rattle.std.specs.Option.{option_map}
+use Rattle.std.proofs.Math.Seq.{drop-append_seam}
+use Rattle.std.proofs.lemmas.List.{drop-append-le, length-append, length-drop, take-append-le}
 use Rattle.std.specs.Map.{lookup}
 use Rattle.std.proofs.lemmas.List.Elements.{All-nil, All-cons, All-head, All-tail, All-weaker}
 use Rattle.rng_model.specs.Patterns.{Schema}
 use Rattle.table_laws.specs.Remainders as law
 use Rattle.table_laws.specs.Remainders.{AreSame, remainders}
-use Rattle.table_laws.proofs.SameRemainders.{same_refl, same_trans}
+use Rattle.table_laws.proofs.SameRemainders.{contains_first, contains_none, same_refl, same_trans}
 use Rattle.pattern_intern.specs.Gathered.{same_number}
 use Rattle.pattern_intern.specs.Schemas.{Numbered}
 use Rattle.pattern_intern.specs.Stored.{Extends, tree_at}
 use Rattle.pattern_intern.specs.declared.id.PatternId.{PatternId}
-use Rattle.derivatives.specs.Remainders.{AreRemainders, AreSets, IsSetOf, IsWithin, remainder_of, remainders_of, set_of}
+use Rattle.derivatives.specs.Remainders.{AreInside, AreRemainders, AreSets, IsSetOf, IsWithin, KeptSets, between, remainder_of, remainders_of, set_of}
 use Rattle.derivatives.specs.declared.remainder.Remainder.{Remainder}
-use Rattle.derivatives.specs.declared.remainder_sets.RemainderSets.{RemainderSets}
+use Rattle.derivatives.specs.declared.remainder_sets.Span.{Span}
 
 within_later : (old new : Numbered) (x : Remainder) → IsWithin old x → Extends old.pool new.pool → new.schema ≡ old.schema → IsWithin new x
 within_later old new x w e same =
@@ -52,10 +55,10 @@ set_later old new id xs h e same =
       pairs = subst (λ p. AreRemainders new (remainders p) xs) (sym (e.kept id.0 n)) (remainders_extend old new (remainders (tree_at old.pool id.0)) xs h.pairs e same);
     }
 
-pub remainder_sets_extend : (old new : Numbered) (sets : RemainderSets) → AreSets old sets → Extends old.pool new.pool → new.schema ≡ old.schema → AreSets new sets
+pub remainder_sets_extend : (old new : Numbered) (sets : KeptSets) → AreSets old sets → Extends old.pool new.pool → new.schema ≡ old.schema → AreSets new sets
 remainder_sets_extend old new sets h e same = record { each = λ id xs g. set_later old new id xs (h.each id xs g) e same }
 
-pub sets_put : (g : Numbered) (old new : RemainderSets) (id : PatternId) (set : List Remainder) → AreSets g old →
+pub sets_put : (g : Numbered) (old new : KeptSets) (id : PatternId) (set : List Remainder) → AreSets g old →
     ((q : PatternId) → set_of new q ≡ cond (same_number id q) (Some set) (set_of old q)) → IsSetOf g id set → AreSets g new
 sets_put g old new id set h put m = record { each = λ q x e. go q x (same_number id q) refl (sym (put q) ∙ e) }
   where
@@ -67,17 +70,90 @@ sets_put g old new id set h put m = record { each = λ q x e. go q x (same_numbe
         subst (λ y. IsSetOf g q y) o (subst (λ y. IsSetOf g y set) i m)
     go q x false same e = h.each q x e
 
-pub sets_same : (g : Numbered) (old new : RemainderSets) → AreSets g old → new.sets.entries ≡ old.sets.entries → AreSets g new
-sets_same g old new h e = record { each = λ q x k. h.each q x (ap (λ kept. lookup (same_number q) kept) (sym e) ∙ k) }
+pub sets_same : (g : Numbered) (old new : KeptSets) → AreSets g old → ((q : PatternId) → set_of new q ≡ set_of old q) → AreSets g new
+sets_same g old new h e = record { each = λ q x k. h.each q x (sym (e q) ∙ k) }
 
-pub sets_none : (g : Numbered) (sets : RemainderSets) → sets.sets.entries ≡ [] → AreSets g sets
-sets_none g sets e = record { each = λ q x k. absurd (none q x (ap (λ kept. lookup (same_number q) kept) (sym e) ∙ k)) }
+pub sets_none : (g : Numbered) (sets : KeptSets) → sets.spans ≡ [] → AreSets g sets
+sets_none g sets e = record { each = λ q x k. absurd (none q x (ap (λ spans. option_map (between sets.whole) (lookup (same_number q) spans)) (sym e) ∙ k)) }
   where
-    none : (q : PatternId) (x : List Remainder) → lookup (same_number q) [] ≡ Some x → ⊥
+    none : (q : PatternId) (x : List Remainder) → option_map (between sets.whole) (lookup (same_number q) []) ≡ Some x → ⊥
     none q x k = absurd (cc)
 
--- whether or not there was memory for it
-pub sets_after_put : {T E : Type 0} (r : Result T E) (g : Numbered) (old new : RemainderSets) (id : PatternId) (set : List Remainder) → AreSets g old → IsSetOf g id set →
-    OnOk r ((q : PatternId) → set_of new q ≡ cond (same_number id q) (Some set) (set_of old q)) → OnErr r (new.sets.entries ≡ old.sets.entries) → AreSets g new
-sets_after_put (Ok x) g old new id set h m kept unchanged = sets_put g old new id set h kept m
-sets_after_put (Err e) g old new id set h m kept unchanged = sets_same g old new h unchanged
+pub inside_none : (sets : KeptSets) → sets.spans ≡ [] → AreInside sets
+inside_none sets e = record { each = λ q s k. absurd (none q s (ap (λ spans. lookup (same_number q) spans) (sym e) ∙ k)) }
+  where
+    none : (q : PatternId) (s : Span) → lookup (same_number q) [] ≡ Some s → ⊥
+    none q s k = absurd (cc)
+
+pub same_some : {X Y : Type 0} (f : X → Y) (o : Option X) → is_some o ≡ is_some (option_map f o)
+same_some f None = refl
+same_some f (Some x) = refl
+
+-- what stands among the first stays
+between_longer : (xs ys : List Remainder) (s : Span) → s.start ≤ s.end → s.end ≤ length xs → between (xs ++ ys) s ≡ between xs s
+between_longer xs ys s a b =
+    let l = length-drop s.start xs in
+    ap (take (s.end - s.start)) (drop-append-le s.start xs ys (omega (arith, a, b)))
+    ∙ take-append-le (s.end - s.start) (drop s.start xs) ys (omega (arith, a, b, l))
+
+-- what was added stands behind them
+between_end : (xs ys : List Remainder) (s : Span) → s.start ≡ length xs → s.end ≡ length xs + length ys → between (xs ++ ys) s ≡ ys
+between_end xs ys s a b =
+    (λ k. take (b k - a k) (drop (a k) (xs ++ ys)))
+    ∙ ap (take (length xs + length ys - length xs)) (drop-append_seam xs ys)
+    ∙ take_all (length xs + length ys - length xs) ys (omega arith)
+
+-- a set is put behind the others
+module _ (old new : KeptSets) (set : List Remainder) (inside : AreInside old) (whole : new.whole ≡ old.whole ++ set) where
+  -- the others stay, where it isn't found
+  pub sets_longer : new.spans ≡ old.spans → (q : PatternId) → set_of new q ≡ set_of old q
+  sets_longer same q = ap (λ spans. option_map (between new.whole) (lookup (same_number q) spans)) same ∙ go (lookup (same_number q) old.spans) refl
+    where
+      go : (o : Option Span) → lookup (same_number q) old.spans ≡ o → option_map (between new.whole) o ≡ option_map (between old.whole) o
+      go None e = refl
+      go (Some t) e = let w = inside.each q t e in ap Some (ap (λ xs. between xs t) whole ∙ between_longer old.whole set t w.0 w.1)
+
+  pub inside_longer : new.spans ≡ old.spans → AreInside new
+  inside_longer same = record {
+    each = λ q t e.
+        let w = inside.each q t (ap (lookup (same_number q)) (sym same) ∙ e) in let l = ap length whole ∙ length-append old.whole set in let b = w.1 in
+        (w.0, omega (arith, b, l));
+  }
+
+  module _ (id : PatternId) (s : Span) (start : s.start ≡ length old.whole) (end : s.end ≡ length old.whole + length set)
+      (put : (q : PatternId) → lookup (same_number q) new.spans ≡ cond (same_number id q) (Some s) (lookup (same_number q) old.spans)) where
+    pub set_put : (q : PatternId) → set_of new q ≡ cond (same_number id q) (Some set) (set_of old q)
+    set_put q = ap (option_map (between new.whole)) (put q) ∙ go (same_number id q) (lookup (same_number q) old.spans) refl
+      where
+        go : (b : Bool) (o : Option Span) → lookup (same_number q) old.spans ≡ o →
+            option_map (between new.whole) (cond b (Some s) o) ≡ cond b (Some set) (option_map (between old.whole) o)
+        go true o e = ap Some (ap (λ xs. between xs s) whole ∙ between_end old.whole set s start end)
+        go false None e = refl
+        go false (Some t) e = let w = inside.each q t e in ap Some (ap (λ xs. between xs t) whole ∙ between_longer old.whole set t w.0 w.1)
+
+    pub inside_put : AreInside new
+    inside_put = record { each = λ q t e. go q t (same_number id q) (sym (put q) ∙ e) }
+      where
+        l : length new.whole ≡ length old.whole + length set
+        l = ap length whole ∙ length-append old.whole set
+
+        go : (q : PatternId) (t : Span) (b : Bool) → cond b (Some s) (lookup (same_number q) old.spans) ≡ Some t → (t.start ≤ t.end) × (t.end ≤ length new.whole)
+        go q t true e =
+            let i : s ≡ t = cc in
+            subst (λ (u : Span). (u.start ≤ u.end) × (u.end ≤ length new.whole)) i (omega (arith, start, end), omega (arith, start, end, l))
+        go q t false e = let w = inside.each q t e in let b = w.1 in (w.0, omega (arith, b, l))
+
+-- nothing remains exactly where there is no number
+pub none_remain : (g : Numbered) (id : PatternId) (xs : List Remainder) → IsSetOf g id xs → length xs ≡ 0 → remainders (tree_at g.pool id.0) ≡ []
+none_remain g id [] set l = go (remainders (tree_at g.pool id.0)) set.pairs.same
+  where
+    go : (rs : List law.Remainder) → AreSame [] rs → rs ≡ []
+    go [] h = refl
+    go (r ∷ rs) h = absurd (contains_none r ((h r).1 (contains_first r rs)))
+none_remain g id (x ∷ xs) set l = absurd (omega (arith, l))
+
+pub no_numbers : (g : Numbered) (id : PatternId) (xs : List Remainder) → IsSetOf g id xs → remainders (tree_at g.pool id.0) ≡ [] → length xs ≡ 0
+no_numbers g id [] set e = refl
+no_numbers g id (x ∷ xs) set e =
+    let r = remainder_of g.pool x in
+    absurd (contains_none r (subst (λ rs. Contains rs r) e ((set.pairs.same r).0 (contains_first r (remainders_of g.pool xs)))))

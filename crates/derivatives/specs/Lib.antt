@@ -7,3 +7,4 @@ pub mod Grown
 pub mod Takes
 pub mod Visits
 pub mod Remainders
+pub mod OneNames

@@ -1,5 +1,5 @@
 -- The remainders of patterns by numbers, and sets of them that are kept.
-use Rattle.std.specs.Prelude.{◌≡◌, ◌<◌, ◌↔◌, ◌⊎◌, ℕ, List, ◌++◌, Option, Some, All, Contains, length, map}
+use Rattle.std.specs.Prelude.{◌≡◌, ◌<◌, ◌≤◌, ◌↔◌, ◌⊎◌, ℕ, List, ◌++◌, Option, Some, All, Contains, length, map, option_map, slice_range}
 use Rattle.std.specs.Map.{lookup}
 use Rattle.table_laws.specs.Remainders as law
 use Rattle.table_laws.specs.Remainders.{AreSame, remainders}
@@ -8,7 +8,7 @@ use Rattle.pattern_intern.specs.Schemas.{Numbered}
 use Rattle.pattern_intern.specs.Stored.{Stored, Extends, count, tree_at}
 use Rattle.pattern_intern.specs.declared.id.PatternId.{PatternId}
 use Rattle.derivatives.specs.declared.remainder.Remainder.{Remainder}
-use Rattle.derivatives.specs.declared.remainder_sets.RemainderSets.{RemainderSets}
+use Rattle.derivatives.specs.declared.remainder_sets.Span.{Span}
 
 -- the remainder with the pattern of its number
 abbrev pub remainder_of : Stored → Remainder → law.Remainder
@@ -43,9 +43,24 @@ pub record AreBegun (old now : Numbered) (id rest : ℕ) (begun made : List Rema
   pub gathers : Gathers old now begun done made
   pub whole : remainders (tree_at old.pool id) ≡ done ++ remainders (tree_at old.pool rest)
 
+-- the remainders of all sets, one set behind the other, and by number where its set stands among them
+pub record KeptSets : Type 0 where
+  pub whole : List Remainder
+  pub spans : List (PatternId × Span)
+
+abbrev pub kept_sets : List Remainder → List (PatternId × Span) → KeptSets
+kept_sets xs spans = record { whole = xs; spans = spans }
+
+abbrev pub between : List Remainder → Span → List Remainder
+between xs s = slice_range xs s.start s.end
+
 -- what is kept for a number
-abbrev pub set_of : RemainderSets → PatternId → Option (List Remainder)
-set_of sets id = lookup (same_number id) sets.sets.entries
+abbrev pub set_of : KeptSets → PatternId → Option (List Remainder)
+set_of sets id = option_map (between sets.whole) (lookup (same_number id) sets.spans)
+
+-- each set stands among them
+pub record AreInside (sets : KeptSets) : Type 0 where
+  pub each : (id : PatternId) (s : Span) → lookup (same_number id) sets.spans ≡ Some s → (s.start ≤ s.end) × (s.end ≤ length sets.whole)
 
 -- the set has the remainders of the number's pattern
 pub record IsSetOf (g : Numbered) (id : PatternId) (xs : List Remainder) : Type 0 where
@@ -53,5 +68,5 @@ pub record IsSetOf (g : Numbered) (id : PatternId) (xs : List Remainder) : Type 
   pub pairs : AreRemainders g (remainders (tree_at g.pool id.0)) xs
 
 -- each set is that of its number
-pub record AreSets (g : Numbered) (sets : RemainderSets) : Type 0 where
+pub record AreSets (g : Numbered) (sets : KeptSets) : Type 0 where
   pub each : (id : PatternId) (xs : List Remainder) → set_of sets id ≡ Some xs → IsSetOf g id xs

@@ -32,9 +32,10 @@ pub(crate) fn make_set(
     if sets.has(id) {
         return Ok(());
     }
-    let mut made = RemainderSet::new(schema.allocator());
+    let mut made = sets.spare(schema.allocator());
     gather(schema, sets, id, &mut made)?;
-    sets.put(id, made)
+    sets.put(id, made.as_slice())?;
+    sets.give_back(made)
 }
 
 // Adds the remainders of a pattern, from those of its parts.

@@ -10,6 +10,7 @@ mod gathering;
 mod grow;
 mod more;
 mod name_taken;
+mod one_names;
 mod opening;
 mod remainder;
 mod remainder_set;

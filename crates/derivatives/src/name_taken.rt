@@ -111,11 +111,17 @@ fn name_in_members(
     name_in(pool, bare, name, rest)
 }
 
-/// Whether an attribute of the name may be taken next, if its text is right. Each number is looked into once.
-pub(crate) fn takes_name(pool: &Pool, name: &Name, id: PatternId) -> Result<bool, AllocError>
+/// Whether an attribute of the name may be taken next, if its text is right. Each number is looked into once; `bare` is for its memory
+/// alone.
+pub(crate) fn takes_name(
+    pool: &Pool,
+    bare: &mut Visits,
+    name: &Name,
+    id: PatternId,
+) -> Result<bool, AllocError>
     requires { id.0 < count pool.now }
     ensures { IfOk result (λ b. b ≡ takes_name name.now (tree_at pool.now id.0)) }
 {
-    let mut bare = Visits::new(pool.allocator());
-    name_in(pool, &mut bare, name, id)
+    bare.clear();
+    name_in(pool, bare, name, id)
 }

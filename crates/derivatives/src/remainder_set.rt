@@ -1,5 +1,5 @@
 // Remainders, each once.
-ghost use Rattle.std.specs.Prelude.{◌≡◌, [], ◌∷◌, OnOk};
+ghost use Rattle.std.specs.Prelude.{◌≡◌, [], ◌∷◌, length, OnOk};
 ghost use Rattle.derivatives.specs.Remainders.{AreAdded};
 
 use crate::remainder::Remainder;
@@ -39,6 +39,13 @@ impl RemainderSet {
         self.pairs.as_slice()
     }
 
+    /// How many there are.
+    pub(crate) fn len(&self) -> usize
+        ensures { result ≡ length self.now }
+    {
+        self.as_slice().len()
+    }
+
     /// Adds one, unless it is there.
     pub(crate) fn add(&mut self, remainder: Remainder) -> Result<(), AllocError>
         ensures { OnOk result (AreAdded (remainder ∷ []) self.old self.new) }
@@ -55,5 +62,12 @@ impl RemainderSet {
             self.add(*remainder)?;
         }
         Ok(())
+    }
+
+    /// Removes all, and keeps the memory. It takes time in proportion to the memory.
+    pub(crate) fn clear(&mut self)
+        ensures { self.new ≡ [] }
+    {
+        self.pairs.clear();
     }
 }

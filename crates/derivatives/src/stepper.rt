@@ -14,12 +14,14 @@ ghost use Rattle.derivatives.specs.Steps.{Decides, IsNext, Keeps, LeadsTo, Leads
 
 use crate::attribute::attribute_step;
 use crate::closing::{close, ending, fresh_ending};
+use crate::one_names::OneNames;
 use crate::opening::opening;
 use crate::remainder_sets::RemainderSets;
 use crate::results::Results;
 use crate::states::{Place, State};
 use crate::text::text_step;
 use crate::text_results::TextResults;
+use crate::visits::Visits;
 use derivative_laws::acceptance_is_matching;
 use name_universe::Universe;
 use outside::Steps;
@@ -40,17 +42,22 @@ fn is_not_allowed(pool: &Pool, id: PatternId) -> bool
 }
 
 /// A schema with its universe and atoms, over which codes lead from state to state. Its pool grows with each step. The functions'
-/// results within a step stand in tables that are cleared at the next. What patterns are after a tag and what choices take of texts is
-/// kept for all steps, and so is what patterns may open, whatever the name, until that is too much.
+/// results within a step stand in tables that are cleared at the next. What patterns are after a tag, which may take no text and what
+/// choices take of texts is kept for all steps, and so is what patterns may open, whatever the name, until that is too much.
 #[derive(Drop)]
 pub struct Derivatives {
-    schema: Schema,
-    universe: Universe,
+    pub(crate) schema: Schema,
+    pub(crate) universe: Universe,
     atoms: Atoms,
     kept: Results,
     texts: TextResults,
     closed: Results,
-    openings: RemainderSets,
+    pub(crate) openings: RemainderSets,
+    one_names: OneNames,
+    /// Patterns that may take no text.
+    pub(crate) textless: Visits,
+    /// Patterns that may take no attribute of one name. It is cleared for each name.
+    pub(crate) nameless: Visits,
 }
 
 impl Model for Derivatives {
@@ -59,8 +66,11 @@ impl Model for Derivatives {
     ghost use Rattle.rng_model.specs.Derivatives.{close};
     ghost use Rattle.value_sets.specs.Numbers.{AreSets};
     ghost use Rattle.derivatives.specs.Kept.{AreRight};
+    ghost use Rattle.derivatives.specs.OneNames.{AreOne};
     ghost use Rattle.derivatives.specs.Remainders.{AreSets as AreRemainderSets};
+    ghost use Rattle.derivatives.specs.Takes.{has_text};
     ghost use Rattle.derivatives.specs.Views.{Machine, machine};
+    ghost use Rattle.derivatives.specs.Visits.{AreBare};
 
     ghost Value = { Machine };
 
@@ -68,7 +78,7 @@ impl Model for Derivatives {
 
     ghost view = { λ d. machine d.schema d.universe d.atoms };
 
-    ghost invariant = { λ d. AreRight close d.schema.pool d.closed × AreSets d.schema.pool d.texts.choices × AreRemainderSets d.schema d.openings };
+    ghost invariant = { λ d. AreRight close d.schema.pool d.closed × AreSets d.schema.pool d.texts.choices × AreRemainderSets d.schema d.openings × AreBare has_text d.schema.pool d.textless × AreOne d.schema d.universe.elements.names d.one_names };
 }
 
 impl Derivatives {
@@ -85,6 +95,9 @@ impl Derivatives {
             texts: TextResults::new(alloc),
             closed: Results::new(alloc),
             openings: RemainderSets::new(alloc),
+            one_names: OneNames::new(alloc),
+            textless: Visits::new(alloc),
+            nameless: Visits::new(alloc),
         }
     }
 
@@ -247,7 +260,7 @@ impl Derivatives {
     }
 
     // After the end of a tag.
-    #[tactic(auto, using(crate::proofs::KeepingTexts::sets_extend, crate::proofs::RemainderSets::remainder_sets_extend))]
+    #[tactic(auto, using(crate::proofs::KeepingTexts::sets_extend, crate::proofs::Keeping::bare_extends, crate::proofs::OneNames::one_extends, crate::proofs::RemainderSets::remainder_sets_extend))]
     fn body(&mut self, state: State) -> Result<Option<State>, AllocError>
         requires { state.pattern.0 < count self.old.numbered.pool }
         ensures some { IfOk result (λ r. IfSome r (λ t. IsNext self.old self.new state Body t)) }
@@ -307,7 +320,7 @@ impl Derivatives {
     }
 
     // What may follow an element's name.
-    #[tactic(auto, using(crate::proofs::Keeping::right_extends, crate::proofs::KeepingTexts::sets_extend))]
+    #[tactic(auto, using(crate::proofs::Keeping::right_extends, crate::proofs::KeepingTexts::sets_extend, crate::proofs::Keeping::bare_extends, crate::proofs::OneNames::one_extends, crate::proofs::OneNames::one_tells))]
     fn opened(&mut self, pattern: PatternId, name: usize) -> Result<PatternId, AllocError>
         requires inside { pattern.0 < count self.old.numbered.pool }
         requires name { name < length (lists self.old).elements }
@@ -316,12 +329,21 @@ impl Derivatives {
             (slice_index_or (lists self.old).elements name no_name) (tree_at self.old.numbered.pool pattern.0)) }
         ensures keeps { Keeps self.old self.new }
     {
-        let name = self.universe.elements().get(name);
-        opening(&mut self.schema, &mut self.openings, name, pattern)
+        self.one_names.find(&self.schema, &self.universe)?;
+        let position = name;
+        let name = self.universe.elements().get(position);
+        opening(
+            &mut self.schema,
+            &mut self.openings,
+            &self.one_names,
+            name,
+            position,
+            pattern,
+        )
     }
 
     // What may follow an attribute.
-    #[tactic(auto, using(crate::proofs::Keeping::right_extends, crate::proofs::KeepingTexts::sets_extend, crate::proofs::RemainderSets::remainder_sets_extend))]
+    #[tactic(auto, using(crate::proofs::Keeping::right_extends, crate::proofs::KeepingTexts::sets_extend, crate::proofs::Keeping::bare_extends, crate::proofs::OneNames::one_extends, crate::proofs::RemainderSets::remainder_sets_extend))]
     fn attributed(
         &mut self,
         pattern: PatternId,
@@ -352,7 +374,7 @@ impl Derivatives {
     }
 
     // What may follow a text.
-    #[tactic(auto, using(crate::proofs::Keeping::right_extends, crate::proofs::KeepingTexts::sets_extend, crate::proofs::RemainderSets::remainder_sets_extend))]
+    #[tactic(auto, using(crate::proofs::Keeping::right_extends, crate::proofs::KeepingTexts::sets_extend, crate::proofs::Keeping::bare_extends, crate::proofs::OneNames::one_extends, crate::proofs::RemainderSets::remainder_sets_extend))]
     fn said(&mut self, pattern: PatternId, text: usize) -> Result<PatternId, AllocError>
         requires inside { pattern.0 < count self.old.numbered.pool }
         requires text { text < length (lists self.old).atoms }
@@ -367,7 +389,7 @@ impl Derivatives {
     }
 
     // What may follow the end of an element after its last text or element.
-    #[tactic(auto, using(crate::proofs::Keeping::right_extends, crate::proofs::KeepingTexts::sets_extend, crate::proofs::RemainderSets::remainder_sets_extend))]
+    #[tactic(auto, using(crate::proofs::Keeping::right_extends, crate::proofs::KeepingTexts::sets_extend, crate::proofs::Keeping::bare_extends, crate::proofs::OneNames::one_extends, crate::proofs::RemainderSets::remainder_sets_extend))]
     fn ended(&mut self, pattern: PatternId) -> Result<PatternId, AllocError>
         requires { pattern.0 < count self.old.numbered.pool }
         ensures within { IfOk result (λ r. r.0 < count self.new.numbered.pool) }
@@ -378,7 +400,7 @@ impl Derivatives {
     }
 
     // What may follow the end of an element in which there was nothing, or an empty text.
-    #[tactic(auto, using(crate::proofs::Keeping::right_extends, crate::proofs::KeepingTexts::sets_extend, crate::proofs::RemainderSets::remainder_sets_extend))]
+    #[tactic(auto, using(crate::proofs::Keeping::right_extends, crate::proofs::KeepingTexts::sets_extend, crate::proofs::Keeping::bare_extends, crate::proofs::OneNames::one_extends, crate::proofs::RemainderSets::remainder_sets_extend))]
     fn ended_fresh(&mut self, pattern: PatternId) -> Result<PatternId, AllocError>
         requires { pattern.0 < count self.old.numbered.pool }
         ensures within { IfOk result (λ r. r.0 < count self.new.numbered.pool) }

@@ -111,12 +111,13 @@ fn text_in_members(
     text_in(pool, bare, rest)
 }
 
-/// Whether a text may be taken next, if it is the right one. Each number is looked into once.
-pub(crate) fn takes_text(pool: &Pool, id: PatternId) -> Result<bool, AllocError>
-    requires { id.0 < count pool.now }
+/// Whether a text may be taken next, if it is the right one. A number that was ever looked into in vain isn't looked into again.
+pub(crate) fn takes_text(pool: &Pool, bare: &mut Visits, id: PatternId) -> Result<bool, AllocError>
+    requires inside { id.0 < count pool.now }
+    requires bare { AreBare has_text pool.now bare.old }
     ensures has_text { IfOk result (λ b. b ≡ has_text (tree_at pool.now id.0)) }
     ensures nowhere { IfOk result (λ b. b ≡ false → (s : Text) → text_step s (tree_at pool.now id.0) ≡ not_allowed) }
+    ensures bare { AreBare has_text pool.now bare.new }
 {
-    let mut bare = Visits::new(pool.allocator());
-    text_in(pool, &mut bare, id)
+    text_in(pool, bare, id)
 }

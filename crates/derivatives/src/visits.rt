@@ -9,6 +9,9 @@ use pattern_intern::PatternId;
 use std::alloc::{AllocError, Global};
 use std::marker::Model;
 
+// The memory of more numbers isn't used again: it takes longer to clear than fewer numbers are worth.
+const SPARE_LEN: usize = 64;
+
 /// Numbers of patterns that were looked into in vain.
 #[derive(Drop)]
 pub(crate) struct Visits {
@@ -48,5 +51,16 @@ impl Visits {
     {
         self.numbers.insert(id)?;
         Ok(())
+    }
+
+    /// Forgets all, and keeps the memory where it isn't much.
+    pub(crate) fn clear(&mut self)
+        ensures { self.new ≡ [] }
+    {
+        if self.numbers.len() <= SPARE_LEN {
+            self.numbers.clear();
+        } else {
+            self.numbers = IndexSet::new(*self.numbers.allocator());
+        }
     }
 }

@@ -3,11 +3,11 @@ use Rattle.indexmap.proofs.MapLemmas.{OnOk-map}
 use Rattle.rng_model.specs.Matching.{nullable}
 use Rattle.table_laws.specs.Remainders.{if_nullable, remainders}
 use Rattle.pattern_intern.specs.Stored.{Stored, tree_at}
-use Rattle.derivatives.specs.Remainders.{Gathers}
+use Rattle.derivatives.specs.Remainders.{AreSets, Gathers, IsSetOf}
 use Rattle.derivatives.proofs.Extending.{extends_trans}
 use Rattle.derivatives.proofs.Gathered.{gathers_after, gathers_group, gathers_grown, gathers_interleave, gathers_part, gathers_repeated, members_begin, members_more, members_end, set_made}
 use Rattle.derivatives.proofs.Nodes.{ref_node, repeated_node, choice_node, group_node, interleave_node, after_node}
-use Rattle.derivatives.proofs.RemainderSets.{remainder_sets_extend, sets_after_put}
+use Rattle.derivatives.proofs.RemainderSets.{remainder_sets_extend, sets_put, sets_same}
 use Rattle.derivatives.proofs.gathering.+gathers.Goals as goal
 
 pub gather-returns-in_err-again-in-OneOrMore-clause-sets : goal.gather-returns-in_err-again-in-OneOrMore-clause-sets
@@ -94,8 +94,11 @@ gather_part-returns-in_ok-make_set-in-OneOrMore-clause-gathers t c =
     OnOk-map _ _ _ (gathers_part _ _ _ _ _ _ (c.in_ok-make_set-in-OneOrMore.ensures.sets.each _ _ c.get.ensures) c.requires.inside
     c.in_ok-make_set-in-OneOrMore.ensures.kept c.in_ok-make_set-in-OneOrMore.ensures.schema) c.add_all.ensures
 
+pub make_set-returns-in_err-put-clause-sets : goal.make_set-returns-in_err-put-clause-sets
+make_set-returns-in_err-put-clause-sets t c = sets_same _ _ _ c.in_ok-gather.ensures.sets c.in_err-put.ensures.unchanged
+
 pub make_set-returns-clause-sets : goal.make_set-returns-clause-sets
 make_set-returns-clause-sets t c =
-    sets_after_put _ _ _ _ _ _ c.in_ok-gather.ensures.sets
-    (set_made _ _ _ _ _ c.new-made.ensures c.requires.inside c.gather.ensures.kept c.gather.ensures.schema c.in_ok-gather.ensures.gathers)
-    c.put.ensures.kept c.put.ensures.unchanged
+    subst (AreSets c.gather.new.schema) (sym c.give_back.ensures)
+    (sets_put _ _ _ _ _ c.in_ok-gather.ensures.sets c.in_ok-put.ensures.kept (subst (IsSetOf c.gather.new.schema c.args.id) (sym c.as_slice.ensures)
+    (set_made _ _ _ _ _ c.spare-made.ensures.none c.requires.inside c.gather.ensures.kept c.gather.ensures.schema c.in_ok-gather.ensures.gathers)))

@@ -17,6 +17,6 @@ loop-next-preserved c =
     let l = c.loop-next.invariant.next in let t = c.loop-next-test.true in
     record {
       next = omega arith;
-      entered = entered_more _ _ _ _ _ _ _ _ _ _ _ c.requires (omega arith) (omega arith) refl c.loop-next.invariant.entered
+      entered = entered_more _ _ _ _ _ _ _ _ _ _ _ c.requires.within (omega arith) (omega arith) refl c.loop-next.invariant.entered
           c.entered_before.ensures.kept c.entered_before.ensures.schema c.in_ok-made.ensures.within c.in_ok-made.ensures.made;
     }
