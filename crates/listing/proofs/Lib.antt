@@ -1,4 +1,5 @@
 pub mod Steps
+pub mod Held
 pub mod FromSizeToSize
 pub mod StateLines
 pub mod Sums

@@ -1,5 +1,5 @@
 // The listing of all sizes.
-ghost use Rattle.std.specs.Prelude.{◌≡◌, ℕ, ◌+◌, ◌*◌, ◌≤◌, List, Option, option_map, max, IfSome, IfOk, IfErr, OnOk, is_some};
+ghost use Rattle.std.specs.Prelude.{◌≡◌, ℕ, ◌+◌, ◌*◌, ◌≤◌, List, [], Option, option_map, max, IfSome, IfOk, IfErr, OnOk, is_some};
 ghost use Rattle.rng_model.specs.Hedges.{size as size_of, Skeleton as SkeletonValue};
 ghost use Rattle.rng_model.specs.Listing.{IsListed};
 ghost use Rattle.event_lines.specs.Spelled.{AreSpellings};
@@ -35,7 +35,7 @@ fn list_size<O: Sink, L: Ledger>(
     requires most { m ≤ lister.old.room }
     requires small { lister.old.room ≤ 64 }
     requires left { IfSome left.old (λ k. 1 ≤ k) }
-    requires spelled { AreSpellings (lists table.old) lines.old }
+    requires spelled { AreSpellings (lists table.old) lines.old.spellings }
     ensures goes_on { (n : ℕ) (after : Option SkeletonValue) (page : Option ℕ) (taken : Option (List ℕ)) → m ≤ n →
         IsAtSize table.old n after m page left.old taken (O.taken out.old) →
         GoesOn table.old n after m page left.new taken (O.taken out.new) result }
@@ -49,7 +49,7 @@ fn list_size<O: Sink, L: Ledger>(
     ensures left { OnOk result (IfSome left.new (λ k. 1 ≤ k)) }
     ensures room { lister.new.room ≡ lister.old.room }
     ensures kept { Keeps table.old table.new }
-    ensures spellings { lines.new ≡ lines.old }
+    ensures spellings { lines.new.spellings ≡ lines.old.spellings }
     ensures told { is_some (O.taken out.new) ≡ is_some (O.taken out.old) }
     ensures cause { HasCauseIn (O.faults out.old) (O.faults out.new) result }
 {
@@ -82,7 +82,7 @@ fn list_sizes<O: Sink, L: Ledger>(
     requires small { size ≤ 64 }
     requires room { lister.old.room ≡ size }
     requires left { IfSome left.old (λ k. 1 ≤ k) }
-    requires spelled { AreSpellings (lists table.old) lines.old }
+    requires spelled { AreSpellings (lists table.old) lines.old.spellings }
     ensures ends { (after : Option SkeletonValue) (page : Option ℕ) (taken : Option (List ℕ)) →
         IsAtSize table.old size after first page left.old taken (O.taken out.old) →
         EndsAs (asked_of table.old size after) page taken (O.taken out.new) result }
@@ -98,7 +98,7 @@ fn list_sizes<O: Sink, L: Ledger>(
         HasCost taken (O.taken out.new) (x + table.old.spent) (y + table.new.spent + each * size) each steps.new (asked_of table.old size after) page }
     ensures grown { table.old.grown ≤ size → first ≤ table.old.grown + 1 → result ≡ ListingEnd.Whole → table.new.grown ≡ size }
     ensures kept { Keeps table.old table.new }
-    ensures spellings { lines.new ≡ lines.old }
+    ensures spellings { lines.new.spellings ≡ lines.old.spellings }
     ensures told { is_some (O.taken out.new) ≡ is_some (O.taken out.old) }
     ensures cause { HasCauseOf (O.faults out.old) (O.faults out.new) result }
 {
@@ -124,7 +124,8 @@ fn resume<O: Sink, L: Ledger>(
     steps: &mut Steps<L>,
 ) -> Result<usize, ListingEnd>
     requires left { IfSome left.old (λ k. 1 ≤ k) }
-    requires spelled { AreSpellings (lists table.now) lines.old }
+    requires spelled { AreSpellings (lists table.now) lines.old.spellings }
+    requires none { lines.old.codes ≡ [] }
     requires small { lister.old.room ≤ 64 }
     requires listed { IfSome after (λ c. IsListed table.now.schema (lists table.now) lister.old.room c.now) }
     requires grown { IfSome after (λ c. size_of c.now ≤ table.now.grown) }
@@ -139,7 +140,7 @@ fn resume<O: Sink, L: Ledger>(
     ensures some { IfOk result (λ m. 1 ≤ m) }
     ensures most { 1 ≤ lister.old.room → IfOk result (λ m. m ≤ lister.old.room + 1) }
     ensures room { lister.new.room ≡ lister.old.room }
-    ensures spellings { lines.new ≡ lines.old }
+    ensures spellings { lines.new.spellings ≡ lines.old.spellings }
     ensures told { is_some (O.taken out.new) ≡ is_some (O.taken out.old) }
     ensures cause { HasCauseIn (O.faults out.old) (O.faults out.new) result }
 {
@@ -159,7 +160,8 @@ fn begin(alloc: Global, table: &Table, size: usize) -> Result<(Lister, DocumentL
     requires some { 1 ≤ size }
     requires most { size ≤ 64 }
     ensures room { IfOk result (λ begun. begun.0.room ≡ size) }
-    ensures spelled { IfOk result (λ begun. AreSpellings (lists table.now) begun.1) }
+    ensures spelled { IfOk result (λ begun. AreSpellings (lists table.now) begun.1.spellings) }
+    ensures none { IfOk result (λ begun. begun.1.codes ≡ []) }
 {
     let lister = Lister::begin(alloc, size)?;
     let lines = DocumentLines::of(alloc, table.universe(), table.atoms())?;

@@ -7,6 +7,7 @@ ghost use Rattle.lister.specs.Walks.{IsWalkOf, IsSet};
 ghost use Rattle.listing.specs.Progress.{HasLeft, walk_left};
 ghost use Rattle.listing.specs.Endings.{IsReadyFor, Advances, Completes, IsCut, HasCauseIn};
 ghost use Rattle.listing.specs.Doing.{IsReady};
+ghost use Rattle.listing.specs.Held.{IsHeldAt};
 ghost use Rattle.listing.specs.Summing.{each_of};
 ghost use Rattle.listing.specs.Costs.{IsWrittenFor, CostsOn, CostsTo};
 
@@ -46,7 +47,8 @@ fn write_next<O: Sink, L: Ledger>(
     requires grown { lister.old.size ≤ table.now.grown }
     requires own { IsWalkOf table.now lister.old.size lister.old.stage }
     requires some { IfSome left.old (λ k. 1 ≤ k) }
-    requires spelled { AreSpellings (lists table.now) lines.old }
+    requires spelled { AreSpellings (lists table.now) lines.old.spellings }
+    requires held { IsHeldAt lister.old.stage lines.old.codes }
     ensures advances { (n : ℕ) (after : Option SkeletonValue) (page : Option ℕ) (taken : Option (List ℕ)) →
         IsReadyFor table.now n after lister.old page left.old taken (O.taken out.old) →
         Advances table.now n after lister.new page left.new taken (O.taken out.new) result }
@@ -59,7 +61,8 @@ fn write_next<O: Sink, L: Ledger>(
     ensures own { IsWalkOf table.now lister.new.size lister.new.stage }
     ensures same { (lister.new.room ≡ lister.old.room) × (lister.new.size ≡ lister.old.size) }
     ensures fewer { result ≡ Ok true → walk_left (lists table.now) lister.new.size lister.new.stage < walk_left (lists table.now) lister.old.size lister.old.stage }
-    ensures spellings { lines.new ≡ lines.old }
+    ensures spellings { lines.new.spellings ≡ lines.old.spellings }
+    ensures held { IsHeldAt lister.new.stage lines.new.codes }
     ensures told { is_some (O.taken out.new) ≡ is_some (O.taken out.old) }
     ensures cause { HasCauseIn (O.faults out.old) (O.faults out.new) result }
 {
@@ -67,7 +70,8 @@ fn write_next<O: Sink, L: Ledger>(
     if !lister.next(table, steps) {
         return Ok(false);
     }
-    if lines.write(lister.codes(), out).is_err() {
+    let unchanged = lister.unchanged();
+    if lines.write(lister.codes(), unchanged, out).is_err() {
         return Err(ListingEnd::WriteFault);
     }
     if fills(left) {
@@ -89,7 +93,8 @@ pub(crate) fn write_size<O: Sink, L: Ledger>(
     requires grown { lister.old.size ≤ table.now.grown }
     requires own { IsWalkOf table.now lister.old.size lister.old.stage }
     requires some { IfSome left.old (λ k. 1 ≤ k) }
-    requires spelled { AreSpellings (lists table.now) lines.old }
+    requires spelled { AreSpellings (lists table.now) lines.old.spellings }
+    requires held { IsHeldAt lister.old.stage lines.old.codes }
     ensures completes { (n : ℕ) (after : Option SkeletonValue) (page : Option ℕ) (taken : Option (List ℕ)) →
         IsReadyFor table.now n after lister.old page left.old taken (O.taken out.old) →
         Completes table.now n after lister.old page left.new taken (O.taken out.new) result }
@@ -99,7 +104,7 @@ pub(crate) fn write_size<O: Sink, L: Ledger>(
     ensures cut { IfErr result IsCut }
     ensures left { OnOk result (IfSome left.new (λ k. 1 ≤ k)) }
     ensures room { lister.new.room ≡ lister.old.room }
-    ensures spellings { lines.new ≡ lines.old }
+    ensures spellings { lines.new.spellings ≡ lines.old.spellings }
     ensures told { is_some (O.taken out.new) ≡ is_some (O.taken out.old) }
     ensures cause { HasCauseIn (O.faults out.old) (O.faults out.new) result }
 {

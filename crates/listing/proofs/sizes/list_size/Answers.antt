@@ -5,12 +5,16 @@ use Rattle.listing.specs.Progress.{asked_of}
 use Rattle.listing.specs.Costs.{IsWrittenFor, CostsTo}
 use Rattle.listing.proofs.StateLines.{spent_small}
 use Rattle.listing.proofs.Steps.{spelled_on}
+use Rattle.listing.proofs.Held.{held_before}
 use Rattle.listing.proofs.Sums as sums
 use Rattle.listing.proofs.Costs.{below_later, cost_below, cost_later, costs_grown, costs_later}
 use Rattle.listing.proofs.sizes.list_size.Goals as goal
 
 pub write_size-requires-clause-spelled : goal.write_size-requires-clause-spelled
-write_size-requires-clause-spelled g c = spelled_on c.args.table.now c.grow_to.new.self c.args.lines.now c.grow_to.ensures.kept c.requires.spelled
+write_size-requires-clause-spelled g c = spelled_on c.args.table.now c.grow_to.new.self c.args.lines.now.spellings c.grow_to.ensures.kept c.requires.spelled
+
+pub write_size-requires-clause-held : goal.write_size-requires-clause-held
+write_size-requires-clause-held g c = held_before c.first_of_size.new.self.stage c.args.lines.now.codes c.first_of_size.ensures.stage
 
 pub returns-in-Err-StateLimit-clause-goes_on : goal.returns-in-Err-StateLimit-clause-goes_on
 returns-in-Err-StateLimit-clause-goes_on g c = λ n after page taken l h.

@@ -16,7 +16,7 @@ use Rattle.listing.proofs.sizes.list_sizes.Goals as goal
 pub list_size-requires-clause-spelled : goal.list_size-requires-clause-spelled
 list_size-requires-clause-spelled g c =
     subst (AreSpellings (lists c.loop-m.table)) (sym c.loop-m.invariant.spellings)
-    (spelled_on c.args.table.now c.loop-m.table c.args.lines.now c.loop-m.invariant.kept c.requires.spelled)
+    (spelled_on c.args.table.now c.loop-m.table c.args.lines.now.spellings c.loop-m.invariant.kept c.requires.spelled)
 
 pub loop-m-init : goal.loop-m-init
 loop-m-init g c = record {

@@ -26,7 +26,7 @@ invariant-loop-m g l = record {
       (IsWrittenFor taken (g.O.Sink.taken l.out) (x + each_of l.fn.table l.size + l.fn.table.spent) (y + l.table.spent + each_of l.fn.table l.size * l.m)
       (each_of l.fn.table l.size) l.steps) page l.m l.left;
   grown : l.fn.table.grown ≤ l.size → l.fn.first ≤ l.fn.table.grown + 1 → (l.m ≤ l.table.grown + 1) × (l.table.grown ≤ l.size);
-  spellings : l.lines ≡ l.fn.lines;
+  spellings : l.lines.spellings ≡ l.fn.lines.spellings;
   told : is_some (g.O.Sink.taken l.out) ≡ is_some (g.O.Sink.taken l.fn.out);
   faults : g.O.Sink.faults l.out ≡ g.O.Sink.faults l.fn.out;
 }

@@ -11,6 +11,7 @@ use Rattle.listing.specs.Costs.{IsWrittenFor, HasCost}
 use Rattle.listing.proofs.Sums.{few_sizes}
 use Rattle.listing.proofs.Costs.{below_later, first_for, ready_for}
 use Rattle.listing.proofs.FromSizeToSize.{at_first, cursor_set, ready_at_cursor, after_cursor}
+use Rattle.listing.proofs.Held.{nothing_held}
 use Rattle.listing.proofs.sizes.resume.Goals as goal
 
 abbrev value_of : Option (Bor Skeleton) → Option Skeleton
@@ -22,6 +23,9 @@ returns-in_default-clause-begins g c = λ page taken h.
     let n = c.args.lister.now.room in
     let now = g.O.Sink.taken c.args.out.now in
     subst (λ o. IsAtSize t n (value_of o) 1 page c.args.left.now taken now) (sym c.in_default.is) (at_first t n page c.args.left.now taken now h)
+
+pub write_size-requires-clause-held : goal.write_size-requires-clause-held
+write_size-requires-clause-held g c = nothing_held c.resume_at.new.self.stage c.args.lines.now.codes c.requires.none
 
 pub write_size-requires-clause-set : goal.write_size-requires-clause-set
 write_size-requires-clause-set g c =

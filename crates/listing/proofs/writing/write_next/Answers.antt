@@ -1,16 +1,18 @@
-use Rattle.std.proofs.Common.{◌+◌, refl, sym, subst, ◌∙◌, length, arith}
+use Rattle.std.proofs.Common.{◌+◌, refl, sym, subst, ◌∙◌, length, take, arith}
 use Rattle.std.specs.Prelude.{map}
 use Rattle.skeleton.specs.Views.{code_of}
 use Rattle.std.specs.Io.KnownBytes.{Appends}
 use Rattle.outside.specs.Devices.{AppendsFront}
 use Rattle.rng_model.specs.Events.{events}
 use Rattle.feasibility.specs.Tables.{lists}
+use Rattle.event_lines.specs.Held.{BeginsWith}
 use Rattle.listing.specs.Progress.{asked_of, IsWrittenBelow}
 use Rattle.listing.specs.Costs.{IsWrittenFor}
 use Rattle.listing.specs.Doing.{IsDoneBelow}
 use Rattle.listing.proofs.Sums as sums
 use Rattle.listing.proofs.Costs.{below_later, cost_cut, cost_full, written_more}
 use Rattle.listing.proofs.Steps.{size_written, not_true, codes_in_range, coming, begun, ended, written, failed, went, text_is, ready_again, fewer_left}
+use Rattle.listing.proofs.Held.{begins_held, held_at, held_past}
 use Rattle.listing.proofs.writing.write_next.Goals as goal
 
 pub returns-then-not-next-clause-advances : goal.returns-then-not-next-clause-advances
@@ -22,11 +24,33 @@ returns-then-not-next-clause-advances g c = λ n after page taken h.
     (λ one. not_true c.next.result c.if-not-next.true (c.next.ensures.found.1 one)) in
     subst (λ m. IsWrittenBelow (asked_of t n after) page (m + 1) c.args.left.now taken out) (sym c.next.ensures.same.1) below
 
-pub write-requires : goal.write-requires
-write-requires g c =
+pub write-requires-clause-spelled : goal.write-requires-clause-spelled
+write-requires-clause-spelled g c =
     let t = c.args.table.now in
     let below = codes_in_range t t.universe t.atoms refl refl c.next.new.self.size c.next.new.self.stage c.codes.result.now c.next.ensures.own c.codes.ensures in
     record { lists = lists t; spelled = c.requires.spelled; in_range = below }
+
+pub write-requires-clause-unchanged : goal.write-requires-clause-unchanged
+write-requires-clause-unchanged g c =
+    let held = c.args.lines.now.codes in
+    let codes = map code_of c.codes.result.now in
+    let w = c.args.lister.now in
+    let v = c.next.new.self in
+    subst (λ k. BeginsWith codes (take k held)) (sym c.unchanged-unchanged.ensures)
+    (begins_held c.args.table.now w.size w.stage v.stage v.unchanged held codes c.next.ensures.documents c.requires.held c.next.ensures.unchanged c.codes.ensures)
+
+pub returns-then-not-next-clause-held : goal.returns-then-not-next-clause-held
+returns-then-not-next-clause-held g c =
+    held_past c.next.new.self.stage c.args.lines.now.codes (λ one. not_true c.next.result c.if-not-next.true (c.next.ensures.found.1 one))
+
+pub returns-then-is_err-clause-held : goal.returns-then-is_err-clause-held
+returns-then-is_err-clause-held g c = held_at c.next.new.self.stage (map code_of c.codes.result.now) c.write.new.self.codes c.codes.ensures c.write.ensures.held
+
+pub returns-then-fills-clause-held : goal.returns-then-fills-clause-held
+returns-then-fills-clause-held g c = held_at c.next.new.self.stage (map code_of c.codes.result.now) c.write.new.self.codes c.codes.ensures c.write.ensures.held
+
+pub returns-clause-held : goal.returns-clause-held
+returns-clause-held g c = held_at c.next.new.self.stage (map code_of c.codes.result.now) c.write.new.self.codes c.codes.ensures c.write.ensures.held
 
 pub returns-then-is_err-clause-advances : goal.returns-then-is_err-clause-advances
 returns-then-is_err-clause-advances g c = λ n after page taken h.

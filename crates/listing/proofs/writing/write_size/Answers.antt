@@ -27,6 +27,7 @@ loop-preserved g c = record {
       subst (λ b. CostsOn t n after page taken (g.O.Sink.taken c.write_next.new.out) x y each c.write_next.new.steps c.write_next.new.lister c.write_next.new.left (Ok b)) c.if-branch.true
       (c.in_ok-write_next.ensures.costs n x y each after page taken (subst (λ r. each_of t r ≤ each) (sym l.invariant.room) k) (l.invariant.costs n x y each after page taken k h));
   spellings = c.write_next.ensures.spellings ∙ c.loop.invariant.spellings;
+  held = c.write_next.ensures.held;
   told = c.write_next.ensures.told ∙ c.loop.invariant.told;
   faults = c.in_ok-write_next.ensures.cause ∙ c.loop.invariant.faults;
 }

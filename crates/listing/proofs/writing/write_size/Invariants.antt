@@ -5,6 +5,7 @@ use Rattle.lister.specs.Walks.{IsWalkOf, IsSet}
 use Rattle.listing.specs.Progress.{walk_left}
 use Rattle.listing.specs.Endings.{IsReadyFor}
 use Rattle.listing.specs.Doing.{IsReady}
+use Rattle.listing.specs.Held.{IsHeldAt}
 use Rattle.listing.specs.Summing.{each_of}
 use Rattle.listing.specs.Costs.{IsWrittenFor}
 use Rattle.listing.proofs.writing.write_size.Given as goal
@@ -21,7 +22,8 @@ invariant-loop g l = record {
   costs : (n x y each : ℕ) (after : Option Skeleton) (page : Option ℕ) (taken : Option (List ℕ)) → each_of l.table l.fn.lister.room ≤ each →
       IsReady l.table n after (IsWrittenFor taken (g.O.Sink.taken l.fn.out) x y each l.fn.steps) page l.fn.lister l.fn.left →
       IsReady l.table n after (IsWrittenFor taken (g.O.Sink.taken l.out) x y each l.steps) page l.lister l.left;
-  spellings : l.lines ≡ l.fn.lines;
+  spellings : l.lines.spellings ≡ l.fn.lines.spellings;
+  held : IsHeldAt l.lister.stage l.lines.codes;
   told : is_some (g.O.Sink.taken l.out) ≡ is_some (g.O.Sink.taken l.fn.out);
   faults : g.O.Sink.faults l.out ≡ g.O.Sink.faults l.fn.out;
 }
