@@ -1,5 +1,5 @@
 -- Codes that a document shares with the last one.
-use Rattle.std.proofs.Common.{◌≡◌, ℕ, ◌≤◌, min, List, length, take, map, arith, ap, sym, subst, ◌∙◌}
+use Rattle.std.proofs.Common.{◌≡◌, ℕ, ◌≤◌, List, length, take, map, arith, ap, sym, ◌∙◌}
 use Rattle.std.proofs.lemmas.List.{take-take, take-map, take_all, length-take}
 use Rattle.rng_model.specs.Codes as model
 use Rattle.skeleton.specs.declared.code.Code.{Code}

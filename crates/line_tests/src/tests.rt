@@ -245,9 +245,8 @@ fn codes_of(
 }
 
 /// How many codes the two share at their front, up to so many.
-#[tactic(auto, using(crate::proofs::Shared::shared))]
-fn shared_len(last: &[Code], codes: &[Code], most: usize) -> usize
-    ensures { (held : List CodeValue) → BeginsWith (map value_of last.now) held → BeginsWith (map value_of codes.now) (take result held) }
+fn common_len(last: &[Code], codes: &[Code], most: usize) -> usize
+    ensures { take result last.now ≡ take result codes.now }
 {
     for (i, code) in last.iter().enumerate() {
         if i == most || i == codes.len() || codes[i] != *code {
@@ -255,6 +254,13 @@ fn shared_len(last: &[Code], codes: &[Code], most: usize) -> usize
         }
     }
     last.len()
+}
+
+/// How many codes of a document, up to so many, are unchanged since the last one.
+fn shared_len(last: &[Code], codes: &[Code], most: usize) -> usize
+    ensures { (held : List CodeValue) → BeginsWith (map value_of last.now) held → BeginsWith (map value_of codes.now) (take result held) }
+{
+    common_len(last, codes, most)
 }
 
 /// The atoms of a schema without literals, and of one text more.
