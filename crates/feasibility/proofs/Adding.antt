@@ -1,5 +1,5 @@
 -- What is known of states stays so as states are found, and more is added.
-use Rattle.std.proofs.Common.{◌≡◌, ℕ, ◌+◌, ◌<◌, ◌≤◌, ◌⊎◌, inl, inr, Option, Some, None, List, [], ◌∷◌, ◌++◌, length, length-append, slice_get, refl, sym, ◌∙◌, ap, subst, arith}
+use Rattle.std.proofs.Common.{◌≡◌, ℕ, ◌<◌, ◌≤◌, ◌⊎◌, inl, inr, Option, Some, None, List, [], ◌∷◌, ◌++◌, length, length-append, slice_get, refl, sym, ◌∙◌, ap, subst, arith}
 use Rattle.std.specs.Prelude.{Result, Ok, Err, OnErr}
 use Rattle.std.proofs.lemmas.List.{append_assoc, append-nil}
 use Rattle.std.proofs.lemmas.Option.{slice_get_within}
@@ -9,7 +9,7 @@ use Rattle.rng_model.specs.States.{State}
 use Rattle.feasibility.specs.declared.arc.Arc.{Arc}
 use Rattle.feasibility.specs.declared.explorer.Explorer.{Explorer}
 use Rattle.feasibility.specs.declared.state_id.StateId.{StateId}
-use Rattle.feasibility.specs.Arcs.{IsFree, IsRow, LeadsTo, state_in}
+use Rattle.feasibility.specs.Arcs.{IsFree, IsRow, state_in}
 use Rattle.feasibility.specs.Exploring.{Finds, IsExploring, IsFreeAt, IsReachedBefore, at, found, names, schema}
 use Rattle.feasibility.specs.Growing.{AreFrees, AreRowsOf, AddsFrees, AddsRows, Begins}
 use Rattle.feasibility.proofs.Finding.{finds_names}

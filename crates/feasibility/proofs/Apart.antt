@@ -1,11 +1,11 @@
 -- States of different numbers differ.
-use Rattle.std.proofs.Common.{◌≡◌, ℕ, zero, suc, ◌+◌, ◌<◌, ◌⊎◌, inl, inr, Bool, true, false, ◌&&◌, ◌||◌, List, [], ◌∷◌, length, Contains, nat_eq, get_or, refl, sym, ◌∙◌, ap, subst, arith, true≢false, Option, Some, None}
+use Rattle.std.proofs.Common.{◌≡◌, ℕ, zero, suc, ◌<◌, inl, inr, Bool, true, false, ◌&&◌, ◌||◌, List, [], ◌∷◌, length, nat_eq, get_or, refl, sym, ◌∙◌, ap, subst, arith, true≢false, Some}
 use Rattle.std.specs.List.{AllByRecursion, IsDistinct, list_any, position}
 use Rattle.std.proofs.lemmas.List.Quantifiers.{position-Some}
 use Rattle.rng_model.specs.States.{State, AreDistinct, Reach, ReachesMore}
 use Rattle.derivative_laws.proofs.Members.{IsIn, is_in}
 use Rattle.table_laws.proofs.Counts.{one_more}
-use Rattle.pattern_intern.specs.Stored.{Stored, AreApart, count, tree_at}
+use Rattle.pattern_intern.specs.Stored.{Stored, AreApart, count}
 use Rattle.derivatives.specs.declared.states.Place.{Place}
 use Rattle.derivatives.specs.declared.states.Place.TheVariants.{Tag, Fresh, AfterText, AfterElement}
 use Rattle.derivatives.specs.declared.states.State.{State as Key}
@@ -14,7 +14,7 @@ use Rattle.derivatives.specs.contracts.states.StatePartialEq.TheImpl as key_eq
 use Rattle.derivatives.specs.Views.{place_of, state_of}
 use Rattle.feasibility.specs.declared.explorer.Explorer.{Explorer}
 use Rattle.feasibility.specs.Arcs.{state_in}
-use Rattle.feasibility.specs.Exploring.{IsExploring, IsFound, AreWithin, states_of, found, at, pool, schema, names}
+use Rattle.feasibility.specs.Exploring.{IsExploring, IsFound, AreWithin, states_of, found, pool, schema, names}
 
 both_true : (a b : Bool) → (a && b) ≡ true → (a ≡ true) × (b ≡ true)
 both_true true b h = (refl, h)

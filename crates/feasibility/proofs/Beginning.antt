@@ -1,5 +1,5 @@
 -- A new table.
-use Rattle.std.proofs.Common.{◌≡◌, ◌≢◌, ℕ, zero, suc, ◌+◌, ◌<◌, ◌≤◌, ◌⊎◌, ◌↔◌, inl, inr, max, Option, Some, None, List, [], ◌∷◌, length, slice_get, Contains, refl, sym, ◌∙◌, ap, subst, arith, IsUtf8}
+use Rattle.std.proofs.Common.{◌≡◌, ◌≢◌, ℕ, zero, suc, ◌+◌, ◌<◌, ◌≤◌, ◌⊎◌, inl, inr, max, Option, Some, None, List, [], ◌∷◌, length, slice_get, Contains, refl, sym, ◌∙◌, ap, subst, arith, IsUtf8}
 use Rattle.std.specs.List.{AllByRecursion}
 use Rattle.std.proofs.lemmas.Option.{slice_get_within}
 use Rattle.rng_model.specs.Names.{Name}
@@ -16,7 +16,6 @@ use Rattle.table_laws.proofs.Free.{free_falls, one_free}
 use Rattle.table_laws.proofs.Levels.{reach_zero}
 use Rattle.feasibility.specs.declared.explorer.Explorer.{Explorer}
 use Rattle.feasibility.specs.declared.state_id.StateId.{StateId}
-use Rattle.feasibility.specs.Arcs.{state_in}
 use Rattle.pattern_intern.specs.Schemas.{Numbered}
 use Rattle.text_atoms.specs.declared.origin.Origin.{Origin}
 use Rattle.text_atoms.specs.Origins.{texts_of}

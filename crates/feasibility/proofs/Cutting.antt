@@ -1,23 +1,18 @@
 -- What has grown is cut back, and what goes on from a table.
-use Rattle.std.proofs.Common.{◌≡◌, ◌≢◌, ℕ, zero, suc, ◌+◌, ◌*◌, ◌-◌, ◌<◌, ◌≤◌, ◌⊎◌, inl, inr, Option, Some, None, List, [], ◌∷◌, ◌++◌, length, slice_get, take, refl, sym, ◌∙◌, ap, subst, arith, Contains}
+use Rattle.std.proofs.Common.{◌≡◌, ℕ, zero, suc, ◌+◌, ◌*◌, ◌-◌, ◌<◌, ◌≤◌, inl, inr, Option, List, [], ◌∷◌, ◌++◌, length, take, refl, sym, ◌∙◌, ap, subst, arith, Contains}
 use Rattle.std.proofs.lemmas.Option.{slice_get_within}
 use Rattle.rng_model.specs.Patterns.{Schema}
-use Rattle.rng_model.specs.Universe.{Lists}
-use Rattle.rng_model.specs.Alike.{Groups}
 use Rattle.rng_model.specs.States.{State, AreDistinct, Reach, ReachesMore}
 use Rattle.table_laws.specs.Premises.{AreListable}
 use Rattle.table_laws.specs.Reaching.{start_state}
-use Rattle.table_laws.proofs.Counts.{more_grows, no_more}
-use Rattle.pattern_intern.specs.Stored.{Stored}
-use Rattle.derivatives.specs.declared.states.State.{State as Key}
+use Rattle.table_laws.proofs.Counts.{more_grows}
 use Rattle.feasibility.specs.declared.arc.Arc.{Arc}
 use Rattle.feasibility.specs.declared.explorer.Explorer.{Explorer}
 use Rattle.feasibility.specs.declared.state_id.StateId.{StateId}
-use Rattle.feasibility.specs.Exploring.{Finds, IsExploring, at, found, groups_of, names, pool, schema, states_of}
-use Rattle.feasibility.specs.Grown.{IsGrown, IsLevel, IsStarted, row_total, spent_on}
+use Rattle.feasibility.specs.Exploring.{Finds, at, found, groups_of, names, pool, schema, states_of}
+use Rattle.feasibility.specs.Grown.{IsGrown, IsLevel, IsStarted, row_total}
 use Rattle.feasibility.specs.Growing.{AddsFrees, AddsRows, Begins, GoesOn, Parts, at_level, cost, parts}
 use Rattle.feasibility.proofs.Adding.{begins_itself, begins_on, finds_itself, free_on, row_on}
-use Rattle.feasibility.proofs.Apart.{length_states}
 use Rattle.feasibility.proofs.Finding.{IsOnlyPool, finds_names, pool_explores, pool_finds, states_kept}
 use Rattle.feasibility.proofs.Moving.{finds_on}
 

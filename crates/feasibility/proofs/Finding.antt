@@ -1,20 +1,19 @@
 -- States keep their numbers while more are found.
-use Rattle.std.proofs.Common.{◌≡◌, ℕ, ◌+◌, ◌<◌, ◌≤◌, List, [], ◌∷◌, ◌++◌, length, refl, sym, ◌∙◌, ap, subst, arith}
+use Rattle.std.proofs.Common.{◌≡◌, ◌<◌, List, [], ◌∷◌, length, refl, sym, ◌∙◌, ap, subst, arith}
 use Rattle.std.proofs.lemmas.List.{append-nil}
 use Rattle.rng_model.specs.Texts.{Text}
 use Rattle.rng_model.specs.Universe.{Lists}
 use Rattle.text_atoms.specs.declared.origin.Origin.{Origin}
 use Rattle.text_atoms.specs.Origins.{texts_of}
 use Rattle.name_universe.specs.Tables.{NameTables}
-use Rattle.rng_model.specs.Alike.{AreAlikeGroups}
 use Rattle.rng_model.specs.Universe.{AreLiterals}
-use Rattle.rng_model.specs.States.{State, Reach}
-use Rattle.pattern_intern.specs.Stored.{Stored, Extends, count, tree_at}
+use Rattle.rng_model.specs.States.{State}
+use Rattle.pattern_intern.specs.Stored.{Stored, Extends}
 use Rattle.derivatives.specs.declared.states.State.{State as Key}
-use Rattle.derivatives.specs.Views.{Machine, place_of, state_of}
+use Rattle.derivatives.specs.Views.{Machine, place_of}
 use Rattle.feasibility.specs.declared.explorer.Explorer.{Explorer}
 use Rattle.feasibility.specs.Arcs.{state_in}
-use Rattle.feasibility.specs.Exploring.{IsExploring, Finds, AreWithin, states_of, found, at, pool, schema, names, groups_of}
+use Rattle.feasibility.specs.Exploring.{IsExploring, Finds, AreWithin, states_of, found, pool, schema, names, groups_of}
 
 pub states_kept : (s t : Stored) → Extends s t → (keys : List Key) → AreWithin s keys → states_of t keys ≡ states_of s keys
 states_kept s t x [] w = refl

@@ -1,7 +1,7 @@
 -- The start is found.
 use Rattle.std.specs.Prelude.{IsTrue, ◌↔◌}
-use Rattle.std.proofs.Common.{◌≡◌, ◌≢◌, ℕ, zero, suc, ◌+◌, ◌<◌, ◌≤◌, Bool, true, inl, inr, List, [], ◌∷◌, ◌++◌, length, refl, sym, ◌∙◌, ap, subst, arith}
-use Rattle.rng_model.specs.Patterns.{Schema, not_allowed}
+use Rattle.std.proofs.Common.{◌≡◌, Bool, true, inl, inr, List, [], ◌∷◌, ◌++◌, length, sym, ◌∙◌, ap, subst, arith}
+use Rattle.rng_model.specs.Patterns.{not_allowed}
 use Rattle.rng_model.specs.States.{State}
 use Rattle.table_laws.specs.Reaching.{start_state}
 use Rattle.pattern_intern.specs.Stored.{Stored, tree_at}

@@ -8,7 +8,7 @@ use Rattle.feasibility.specs.declared.state_id.StateId.{StateId}
 use Rattle.std.specs.Prelude.{Option}
 use Rattle.feasibility.specs.Exploring.{at, found, groups_of, names, schema}
 use Rattle.feasibility.specs.Grown.{IsGrown, IsStarted, row_total, spent_on}
-use Rattle.feasibility.specs.Tables.{Table, IsTable}
+use Rattle.feasibility.specs.Tables.{IsTable}
 
 times : (r m n : ℕ) → m ≤ n → r * m ≤ r * n
 times zero m n l = omega arith

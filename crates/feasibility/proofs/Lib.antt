@@ -5,6 +5,7 @@ pub mod Columns
 pub mod Costing
 pub mod Cutting
 pub mod Departing
+pub mod Ending
 pub mod Filled
 pub mod Finding
 pub mod Firsts

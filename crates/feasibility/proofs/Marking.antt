@@ -6,7 +6,7 @@ use Rattle.rng_model.specs.Codes.{Code}
 use Rattle.rng_model.specs.Matching.{nullable}
 use Rattle.rng_model.specs.Patterns.{not_allowed}
 use Rattle.rng_model.specs.States.{State, Reach, step}
-use Rattle.table_laws.specs.Finishing.{Finish, Marked, MarkedNode}
+use Rattle.table_laws.specs.Finishing.{Finish, Marked}
 use Rattle.table_laws.specs.Reaching.{Leads, free_code, free_codes_left, weight}
 use Rattle.table_laws.proofs.Free.{free_falls}
 use Rattle.table_laws.proofs.Levels.{reach_more, reach_step}
@@ -16,10 +16,10 @@ use Rattle.feasibility.specs.declared.arc.Arc.{Arc}
 use Rattle.feasibility.specs.declared.block.Block.{Block}
 use Rattle.feasibility.specs.declared.explorer.Explorer.{Explorer}
 use Rattle.feasibility.specs.declared.state_id.StateId.{StateId}
-use Rattle.feasibility.specs.Arcs.{Covers, IsFrom, IsFree, IsRow, LeadsTo}
+use Rattle.feasibility.specs.Arcs.{IsFrom, IsFree, LeadsTo}
 use Rattle.feasibility.specs.Exploring.{IsExploring, at, found, names, schema}
 use Rattle.feasibility.specs.Grown.{IsGrown, IsLevel}
-use Rattle.feasibility.specs.Marking.{AreMarked, AreMarks, AreReady, AreRight, Finishes, FinishesFirst, HasMarks, IsBlock, IsFilled, IsClosed, IsReady, IsReadyNode, IsWithin, LeadsOn, Stay, end_of}
+use Rattle.feasibility.specs.Marking.{AreMarked, AreMarks, AreReady, AreRight, Finishes, FinishesFirst, HasMarks, IsBlock, IsFilled, IsClosed, IsReadyNode, LeadsOn, Stay, end_of}
 use Rattle.feasibility.proofs.Rowing.{slice_get-push}
 
 -- what stands at a place within
@@ -33,12 +33,9 @@ get_here [] i d l = absurd (omega arith)
 get_here (x ∷ xs) zero d l = refl
 get_here (x ∷ xs) (suc i) d l = get_here xs i d (omega arith)
 
--- what stands at a place is what is read there
-pub here_is : {X : Type 0} (xs : List X) (i : ℕ) (x y : X) → slice_get xs i ≡ Some x → y ≡ get_or xs i y → y ≡ x
-here_is xs i x y h e =
-    let g = get_here xs i y (slice_get_within xs i x h) in
-    let z : get_or xs i y ≡ x = cc in
-    e ∙ z
+-- one thing stands at a place
+pub same_row : {X : Type 0} (xs : List X) (i : ℕ) (x y : X) → slice_get xs i ≡ Some x → slice_get xs i ≡ Some y → y ≡ x
+same_row xs i x y h e = cc
 
 -- what stands in a list that is written at a place
 pub slice_get-set : {X : Type 0} (xs : List X) (n k : ℕ) (x y : X) → slice_get (set xs n x) k ≡ Some y → (slice_get xs k ≡ Some y) ⊎ ((k ≡ n) × (x ≡ y))

@@ -1,19 +1,18 @@
 -- Growing by one size.
-use Rattle.std.proofs.Common.{◌≡◌, ◌≢◌, ℕ, zero, suc, ◌+◌, ◌*◌, ◌<◌, ◌≤◌, ◌⊎◌, ◌↔◌, inl, inr, Option, Some, None, List, [], ◌∷◌, ◌++◌, length, length-append, slice_get, Contains, refl, sym, ◌∙◌, ap, subst, arith}
+use Rattle.std.proofs.Common.{◌≡◌, ℕ, zero, suc, ◌+◌, ◌<◌, ◌≤◌, ◌⊎◌, inl, inr, Option, Some, None, List, [], ◌∷◌, ◌++◌, length, length-append, slice_get, Contains, refl, sym, ◌∙◌, ap, subst, arith}
 use Rattle.std.proofs.lemmas.Option.{slice_get_within}
-use Rattle.rng_model.specs.Codes.{Code}
 use Rattle.rng_model.specs.Patterns.{Schema, not_allowed}
 use Rattle.rng_model.specs.Universe.{Lists}
-use Rattle.rng_model.specs.States.{State, AreDistinct, Reach, ReachesMore, step}
+use Rattle.rng_model.specs.States.{State, AreDistinct, Reach, step}
 use Rattle.derivative_laws.proofs.Members.{IsIn, is_in, contained}
 use Rattle.table_laws.specs.Premises.{AreListable}
-use Rattle.table_laws.specs.Reaching.{GoesInto, Leads, free_code, start_state, weight}
+use Rattle.table_laws.specs.Reaching.{GoesInto, start_state}
 use Rattle.table_laws.proofs.Free.{one_free}
 use Rattle.table_laws.proofs.Levels.{reach_level, reach_more}
 use Rattle.feasibility.specs.declared.arc.Arc.{Arc}
 use Rattle.feasibility.specs.declared.explorer.Explorer.{Explorer}
 use Rattle.feasibility.specs.declared.state_id.StateId.{StateId}
-use Rattle.feasibility.specs.Arcs.{IsFree, IsRow, LeadsTo, Covers, state_in}
+use Rattle.feasibility.specs.Arcs.{IsFree, IsRow, state_in}
 use Rattle.feasibility.specs.Exploring.{Finds, IsExploring, IsReachedBefore, at, found, names, schema}
 use Rattle.feasibility.specs.Grown.{IsGrown, IsLevel, IsStarted}
 use Rattle.feasibility.specs.Growing.{AreFrees, AreRowsOf, at_level}

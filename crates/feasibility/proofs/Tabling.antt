@@ -1,15 +1,13 @@
 -- What contracts see of a table as it grows.
-use Rattle.std.proofs.Common.{◌≡◌, ℕ, zero, suc, ◌+◌, ◌*◌, ◌-◌, ◌<◌, ◌≤◌, List, [], length, take, refl, sym, ◌∙◌, ap, subst, arith}
+use Rattle.std.proofs.Common.{◌≡◌, ℕ, zero, suc, ◌+◌, ◌*◌, ◌-◌, ◌≤◌, List, [], length, refl, sym, ◌∙◌, ap, subst, arith}
 use Rattle.rng_model.specs.Patterns.{Schema}
 use Rattle.rng_model.specs.Texts.{Text}
-use Rattle.rng_model.specs.Alike.{Groups}
 use Rattle.rng_model.specs.States.{ReachesMore}
 use Rattle.table_laws.specs.Premises.{AreListable}
 use Rattle.table_laws.proofs.Counts.{more_grows, no_more}
 use Rattle.pattern_intern.specs.Stored.{Stored, Extends}
 use Rattle.text_atoms.specs.declared.origin.Origin.{Origin}
 use Rattle.name_universe.specs.Tables.{NameTables}
-use Rattle.derivatives.specs.declared.states.State.{State as Key}
 use Rattle.feasibility.specs.declared.arc.Arc.{Arc}
 use Rattle.feasibility.specs.declared.explorer.Explorer.{Explorer}
 use Rattle.feasibility.specs.declared.fault.Refusal.{Refusal}
@@ -37,7 +35,7 @@ listable_from e g u a p q r h =
 pub listable_on : (e f : Explorer) → Finds e f → AreListable (schema e) (names e) → AreListable (schema f) (names f)
 listable_on e f x h = subst (λ z. AreListable z (names f)) (sym x.schema) (subst (AreListable (schema e)) (sym (finds_names e f x)) h)
 
-pub new_states : (s : States) (e : Explorer) → s.explorer ≡ e → s.frees.items ≡ [] → s.rows.items ≡ [] → s.levels.items ≡ [] → AreListable (schema e) (names e) → IsExploring e →
+pub new_states : (s : States) (e : Explorer) → s.explorer ≡ e → s.frees.items ≡ [] → s.rows ≡ [] → s.levels.items ≡ [] → AreListable (schema e) (names e) → IsExploring e →
     e.states.keys ≡ [] → e.level ≡ 0 → 1 ≤ e.limit → e.limit ≤ 1000000 → IsNew s
 new_states s e same frees rows levels listable exploring none level some most = record {
   listable = subst (λ (x : Explorer). AreListable (schema x) (names x)) (sym same) listable;
@@ -52,7 +50,7 @@ new_states s e same frees rows levels listable exploring none level some most = 
 }
 
 -- nothing is spent on the start
-pub none_spent : (s : States) → length (found s.explorer) ≤ 1 → s.rows.items ≡ [] → spent_on (names s.explorer) (groups_of s.explorer) (length (found s.explorer)) (length s.rows.items) ≡ 0
+pub none_spent : (s : States) → length (found s.explorer) ≤ 1 → s.rows ≡ [] → spent_on (names s.explorer) (groups_of s.explorer) (length (found s.explorer)) (length s.rows) ≡ 0
 none_spent s one rows =
     subst (λ (rs : List (List Arc)). spent_on (names s.explorer) (groups_of s.explorer) (length (found s.explorer)) (length rs) ≡ 0) (sym rows) (omega (arith, one))
 
@@ -155,23 +153,23 @@ module _ (p q k : States) (x : Extent) (h : AreGrown p) (on : GoesOn (parts_of p
   cut_frees : k.frees.items ≡ p.frees.items
   cut_frees = cut.frees ∙ cut_front p.frees.items q.frees.items x.states on.frees (far.states ∙ sym h.all_frees)
 
-  cut_rows : k.rows.items ≡ p.rows.items
-  cut_rows = cut.rows ∙ cut_front p.rows.items q.rows.items x.rows on.rows far.rows
+  cut_rows : k.rows ≡ p.rows
+  cut_rows = cut.rows ∙ cut_front p.rows q.rows x.rows on.rows far.rows
 
   pub cut_levels : k.levels.items ≡ p.levels.items
   cut_levels = cut.levels ∙ cut_front p.levels.items q.levels.items (x.level + 1) on.levels (ap (λ n. n + 1) far.level ∙ sym h.all_levels)
 
   pub cut_grown : AreGrown k
   cut_grown =
-      let g = grown_still p.explorer k.explorer p.frees.items p.rows.items p.levels.items h cut_pool in
-      subst (λ (ys : List (Option StateId)). IsGrown k.explorer ys k.rows.items k.levels.items) (sym cut_frees)
+      let g = grown_still p.explorer k.explorer p.frees.items p.rows p.levels.items h cut_pool in
+      subst (λ (ys : List (Option StateId)). IsGrown k.explorer ys k.rows k.levels.items) (sym cut_frees)
       (subst (λ (ys : List (List Arc)). IsGrown k.explorer p.frees.items ys k.levels.items) (sym cut_rows)
-      (subst (λ (ys : List ℕ). IsGrown k.explorer p.frees.items p.rows.items ys) (sym cut_levels) g))
+      (subst (λ (ys : List ℕ). IsGrown k.explorer p.frees.items p.rows ys) (sym cut_levels) g))
 
   pub cut_view : view_of (parts_of k) ≡ view_of (parts_of p)
   cut_view =
       ap (λ (ys : List (List Arc)). view_of (parts k.explorer k.frees.items ys k.levels.items)) cut_rows ∙
-      same_view p.explorer k.explorer p.frees.items p.rows.items p.levels.items h cut_pool
+      same_view p.explorer k.explorer p.frees.items p.rows p.levels.items h cut_pool
 
 -- which fault it is
 pub over_limit : (p : Parts) (size limit : ℕ) (r : Refusal) → limit ≡ p.explorer.limit → (r ≡ Full → ReachesMore (schema p.explorer) (names p.explorer) size p.explorer.limit) →
@@ -195,7 +193,7 @@ few_costs p q x h =
     let some = h.some_rows in
     let few = h.exploring.few in
     let same = x.finds.limit in
-    let r = times (row_total (names p.explorer) (groups_of p.explorer)) (length q.rows.items) p.explorer.limit (omega (arith, some, few, same)) in
+    let r = times (row_total (names p.explorer) (groups_of p.explorer)) (length q.rows) p.explorer.limit (omega (arith, some, few, same)) in
     omega (arith, all, few, same, r)
 
 pub keeps_itself : (t : Table) → Keeps t t

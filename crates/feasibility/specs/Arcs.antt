@@ -1,6 +1,6 @@
 -- What leads from a state to others: runs of codes that lead to one state.
-use Rattle.std.specs.Prelude.{◌≡◌, ℕ, ◌+◌, ◌<◌, ◌≤◌, ◌⊎◌, List, Option, Some, None, ⊤, length, slice_get, slice_index_or}
-use Rattle.rng_model.specs.Codes.{Code, Opening, Attr, Body, Chars, Closing, IsInRange}
+use Rattle.std.specs.Prelude.{◌≡◌, ℕ, ◌<◌, ◌≤◌, ◌⊎◌, List, Option, Some, None, ⊤, length, slice_get, slice_index_or}
+use Rattle.rng_model.specs.Codes.{Code, Opening, Attr, Chars, IsInRange}
 use Rattle.rng_model.specs.Patterns.{Schema, not_allowed}
 use Rattle.rng_model.specs.Universe.{Lists}
 use Rattle.rng_model.specs.States.{State, Fresh, step}

@@ -1,5 +1,5 @@
 -- The derivatives that rows take.
-use Rattle.std.specs.Prelude.{◌≡◌, ℕ, ◌+◌, ◌*◌, ◌-◌, List, [], Bool, false, Option, drop, length, sum_by, slice_index_or, if◌then◌else◌}
+use Rattle.std.specs.Prelude.{ℕ, ◌-◌, List, [], Bool, false, Option, drop, length, sum_by, slice_index_or, if◌then◌else◌}
 use Rattle.rng_model.specs.Texts.{is_white}
 use Rattle.rng_model.specs.Universe.{Lists}
 use Rattle.rng_model.specs.Alike.{Groups, group_count, inked_count}

@@ -1,5 +1,5 @@
 -- Families of codes that differ in one position.
-use Rattle.std.specs.Prelude.{◌≡◌, ℕ, ◌+◌, ◌<◌, ◌^◌, List, ⊤, length}
+use Rattle.std.specs.Prelude.{ℕ, ◌+◌, ◌<◌, ◌^◌, List, ⊤, length}
 use Rattle.rng_model.specs.Codes as code
 use Rattle.rng_model.specs.Universe.{Lists}
 use Rattle.rng_model.specs.Alike.{Groups}

@@ -1,12 +1,9 @@
 -- What a table tells of the states that follow: this project's own.
-use Rattle.std.specs.Prelude.{◌≡◌, ℕ, ◌+◌, ◌<◌, ◌≤◌, ⊤, Option, Some, None, length, option_map}
+use Rattle.std.specs.Prelude.{◌≡◌, ℕ, ◌+◌, ◌<◌, ◌≤◌, ⊤, Option, Some, None, length}
 use Rattle.std.specs.declared.cmp.Ordering.TheVariants.{Less}
 use Rattle.rng_model.specs.Codes.{Code, code_cmp}
 use Rattle.rng_model.specs.States.{step, Reach}
 use Rattle.table_laws.specs.Finishing.{CanTake}
-use Rattle.skeleton.specs.declared.code.Code as coded
-use Rattle.skeleton.specs.Views.{code_of}
-use Rattle.feasibility.specs.declared.state_id.StateId.{StateId}
 use Rattle.feasibility.specs.Tables.{Table, lists, state_of}
 
 -- the table holds the number

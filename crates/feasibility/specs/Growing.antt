@@ -63,11 +63,11 @@ abbrev pub parts : Explorer → List (Option StateId) → List (List Arc) → Li
 parts e frees rows levels = record { explorer = e; frees = frees; rows = rows; levels = levels }
 
 abbrev pub parts_of : States → Parts
-parts_of s = parts s.explorer s.frees.items s.rows.items s.levels.items
+parts_of s = parts s.explorer s.frees.items s.rows s.levels.items
 
 -- what is so of every table's states
 abbrev pub AreGrown : States → Type 0
-AreGrown s = IsGrown s.explorer s.frees.items s.rows.items s.levels.items
+AreGrown s = IsGrown s.explorer s.frees.items s.rows s.levels.items
 
 -- the second has grown from the first: all that was known stays
 pub record GoesOn (old new : Parts) : Type 0 where
@@ -93,7 +93,7 @@ full_cost p = cost (names p.explorer) (groups_of p.explorer) p.explorer.limit p.
 -- so far the states have grown
 pub record IsExtent (s : States) (x : Extent) : Type 0 where
   pub states : x.states ≡ length (found s.explorer)
-  pub rows : x.rows ≡ length s.rows.items
+  pub rows : x.rows ≡ length s.rows
   pub level : x.level ≡ s.explorer.level
 
 -- what has grown past the extent is taken back, but for patterns in the pool
@@ -107,7 +107,7 @@ pub record IsCutTo (x : Extent) (old new : States) : Type 0 where
   pub level : new.explorer.level ≡ x.level
   pub states : new.explorer.states.keys ≡ take x.states old.explorer.states.keys
   pub frees : new.frees.items ≡ take x.states old.frees.items
-  pub rows : new.rows.items ≡ take x.rows old.rows.items
+  pub rows : new.rows ≡ take x.rows old.rows
   pub levels : new.levels.items ≡ take (x.level + 1) old.levels.items
 
 -- nothing is found yet
@@ -119,11 +119,11 @@ pub record IsNew (s : States) : Type 0 where
   pub level : s.explorer.level ≡ 0
   pub states : s.explorer.states.keys ≡ []
   pub frees : s.frees.items ≡ []
-  pub rows : s.rows.items ≡ []
+  pub rows : s.rows ≡ []
   pub levels : s.levels.items ≡ []
 
 -- the start is found, unless the schema allows nothing
 pub record IsBegun (old new : States) : Type 0 where
   pub finds : Finds old.explorer new.explorer
   pub one : length (found new.explorer) ≤ 1
-  pub rows : new.rows.items ≡ []
+  pub rows : new.rows ≡ []

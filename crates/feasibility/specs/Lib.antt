@@ -10,6 +10,7 @@ pub mod Growing
 pub mod Grown
 pub mod Limits
 pub mod Marking
+pub mod RowLists
 pub mod Runs
 pub mod Tables
 pub mod Taking

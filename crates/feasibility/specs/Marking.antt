@@ -1,5 +1,5 @@
 -- Which states can finish, and with how many nodes.
-use Rattle.std.specs.Prelude.{◌≡◌, ℕ, ◌+◌, ◌-◌, ◌<◌, ◌≤◌, ◌↔◌, ◌⊎◌, Bool, true, false, IsTrue, List, Option, Some, length, slice_get, suc}
+use Rattle.std.specs.Prelude.{◌≡◌, ℕ, ◌+◌, ◌<◌, ◌≤◌, ◌↔◌, ◌⊎◌, Bool, true, false, IsTrue, List, Option, Some, length, slice_get}
 use Rattle.rng_model.specs.Matching.{nullable}
 use Rattle.table_laws.specs.Finishing.{Finish, MarkedNode}
 use Rattle.feasibility.specs.declared.arc.Arc.{Arc}
@@ -103,4 +103,4 @@ pub record IsFilled (e : Explorer) (frees : List (Option StateId)) (rows : List 
   pub marked : AreMarked e levels (e.level + 1) marks
 
 abbrev pub AreFilled : States → List (List Bool) → Type 0
-AreFilled s marks = IsFilled s.explorer s.frees.items s.rows.items s.levels.items marks
+AreFilled s marks = IsFilled s.explorer s.frees.items s.rows s.levels.items marks

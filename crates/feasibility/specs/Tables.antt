@@ -1,5 +1,5 @@
 -- What contracts see of a table of states: this project's own.
-use Rattle.std.specs.Prelude.{◌≡◌, ℕ, ◌+◌, ◌*◌, ◌<◌, ◌≤◌, ◌↔◌, List, length, slice_index_or, Contains}
+use Rattle.std.specs.Prelude.{◌≡◌, ℕ, ◌*◌, ◌<◌, ◌≤◌, ◌↔◌, List, length, slice_index_or, Contains}
 use Rattle.rng_model.specs.Texts.{Text}
 use Rattle.rng_model.specs.Patterns.{Schema, not_allowed}
 use Rattle.rng_model.specs.Universe.{Lists, AreLiterals}

@@ -10,6 +10,7 @@ use crate::explorer::Explorer;
 use crate::fault::Refusal;
 use crate::note::note;
 use crate::row::Row;
+use crate::row_list::RowList;
 use crate::state_id::StateId;
 use crate::states::{Extent, States};
 use outside::Steps;
@@ -59,20 +60,22 @@ pub(crate) fn find_frees<L: Ledger>(
 fn add_row<L: Ledger>(
     alloc: Global,
     explorer: &mut Explorer,
-    rows: &mut Vec<Row>,
+    rows: &mut RowList,
+    row: &mut Row,
     steps: &mut Steps<L>,
 ) -> Result<(), Refusal>
     requires exploring { IsExploring explorer.old }
-    requires rows { AreRowsOf explorer.old rows.old.items }
-    requires left { length rows.old.items < length (found explorer.old) }
-    requires reached { IsReachedBefore explorer.old (length rows.old.items) 1 }
-    ensures adds { AddsRows explorer.old explorer.new rows.old.items rows.new.items }
-    ensures one { OnOk result (length rows.new.items ≡ length rows.old.items + 1) }
+    requires rows { AreRowsOf explorer.old rows.old }
+    requires left { length rows.old < length (found explorer.old) }
+    requires reached { IsReachedBefore explorer.old (length rows.old) 1 }
+    ensures adds { AddsRows explorer.old explorer.new rows.old rows.new }
+    ensures one { OnOk result (length rows.new ≡ length rows.old + 1) }
     ensures full { IfErr result (IsRightly explorer.old) }
     ensures ticks { steps.new ≤ steps.old + row_total (names explorer.old) (groups_of explorer.old) }
 {
-    let row = explorer.row(alloc, StateId(rows.len()), steps)?;
-    note(rows, row)?;
+    row.clear();
+    explorer.fill_row(alloc, StateId(rows.len()), row, steps)?;
+    rows.push(row.arcs())?;
     Ok(())
 }
 
@@ -80,25 +83,26 @@ fn add_row<L: Ledger>(
 pub(crate) fn find_rows<L: Ledger>(
     alloc: Global,
     explorer: &mut Explorer,
-    rows: &mut Vec<Row>,
+    rows: &mut RowList,
     end: usize,
     steps: &mut Steps<L>,
 ) -> Result<(), Refusal>
     requires exploring { IsExploring explorer.old }
-    requires rows { AreRowsOf explorer.old rows.old.items }
+    requires rows { AreRowsOf explorer.old rows.old }
     requires end { end ≤ length (found explorer.old) }
     requires reached { (id : ℕ) → id < end → IsReachedBefore explorer.old id 1 }
-    ensures adds { AddsRows explorer.old explorer.new rows.old.items rows.new.items }
-    ensures all { OnOk result (end ≤ length rows.new.items) }
+    ensures adds { AddsRows explorer.old explorer.new rows.old rows.new }
+    ensures all { OnOk result (end ≤ length rows.new) }
     ensures none { length (found explorer.old) ≡ 0 → length (found explorer.new) ≡ 0 }
     ensures full { IfErr result (IsRightly explorer.old) }
-    ensures ticks { OnOk result (steps.new + row_total (names explorer.old) (groups_of explorer.old) * length rows.old.items ≤
-        steps.old + row_total (names explorer.old) (groups_of explorer.old) * length rows.new.items) }
-    ensures tick { OnErr result (steps.new + row_total (names explorer.old) (groups_of explorer.old) * length rows.old.items ≤
+    ensures ticks { OnOk result (steps.new + row_total (names explorer.old) (groups_of explorer.old) * length rows.old ≤
+        steps.old + row_total (names explorer.old) (groups_of explorer.old) * length rows.new) }
+    ensures tick { OnErr result (steps.new + row_total (names explorer.old) (groups_of explorer.old) * length rows.old ≤
         steps.old + row_total (names explorer.old) (groups_of explorer.old) * end) }
 {
+    let mut row = Row::new(alloc);
     while rows.len() < end {
-        add_row(alloc, explorer, rows, steps)?;
+        add_row(alloc, explorer, rows, &mut row, steps)?;
     }
     Ok(())
 }

@@ -17,6 +17,7 @@ mod marks;
 mod next_codes;
 mod note;
 mod row;
+mod row_list;
 mod row_search;
 mod rows;
 mod starting;

@@ -7,11 +7,12 @@ ghost use Rattle.feasibility.specs.Exploring.{IsExploring, at, found};
 ghost use Rattle.feasibility.specs.Grown.{IsGrown};
 ghost use Rattle.feasibility.specs.Marking.{AreMarks, AreMarked, AreReady, AreRight, Finishes, FinishesFirst, HasMarks, KeepsMarks, Stay, IsBlock, IsClosed, IsReady, IsReadyNode, IsWithin, LeadsOn, end_of};
 
+use crate::arc::Arc;
 use crate::block::Block;
 use crate::explorer::Explorer;
 use crate::mark_list::MarkList;
 use crate::mark_words::{BITS, MarkWords};
-use crate::row::Row;
+use crate::row_list::RowList;
 use crate::state_id::StateId;
 use std::alloc::{AllocError, Global};
 use std::marker::Model;
@@ -45,13 +46,13 @@ fn accepts(explorer: &Explorer, id: usize) -> bool
 }
 
 // Whether an arc leads to a state with a mark.
-fn leads_on(row: &Row, marks: &Marks, rest: usize) -> bool
+fn leads_on(row: &[Arc], marks: &Marks, rest: usize) -> bool
     requires listed { rest < length marks.now }
     requires within { IsWithin row.now (length (list_of marks.now rest)) }
     ensures { IsTrue result ↔ LeadsOn row.now (list_of marks.now rest) }
 {
     for place in 0..row.len() {
-        if marks.get(rest, row.arc(place).next.0) {
+        if marks.get(rest, row[place].next.0) {
             return true;
         }
     }
@@ -165,18 +166,18 @@ impl Marks {
     }
 
     // Whether a code with a node leads from a state to one that can finish with exactly `left` nodes.
-    fn node_mark(&self, explorer: &Explorer, rows: &[Row], left: usize, id: usize) -> bool
+    fn node_mark(&self, explorer: &Explorer, rows: &RowList, left: usize, id: usize) -> bool
         requires exploring { IsExploring explorer.now }
         requires row { id < length rows.now }
         requires list { left < length self.now }
         requires ready { IsReadyNode explorer.now rows.now left id self.now }
         ensures { IsTrue result ↔ FinishesFirst explorer.now (left + 1) id }
     {
-        leads_on(&rows[id], self, left)
+        leads_on(rows.get(id), self, left)
     }
 
     // Whether a state can finish so that the first code has a node, or none follows.
-    fn first_mark(&self, explorer: &Explorer, rows: &[Row], rest: usize, id: usize) -> bool
+    fn first_mark(&self, explorer: &Explorer, rows: &RowList, rest: usize, id: usize) -> bool
         requires exploring { IsExploring explorer.now }
         requires ready { IsReady explorer.now rows.now rest id self.now }
         ensures { IsTrue result ↔ FinishesFirst explorer.now rest id }
@@ -192,7 +193,7 @@ impl Marks {
     fn block(
         &self,
         explorer: &Explorer,
-        rows: &[Row],
+        rows: &RowList,
         rest: usize,
         start: usize,
         count: usize,
@@ -258,7 +259,7 @@ impl Marks {
         &mut self,
         explorer: &Explorer,
         frees: &[Option<StateId>],
-        rows: &[Row],
+        rows: &RowList,
         rest: usize,
         count: usize,
     ) -> Result<(), AllocError>
@@ -287,7 +288,7 @@ impl Marks {
         &mut self,
         explorer: &Explorer,
         frees: &[Option<StateId>],
-        rows: &[Row],
+        rows: &RowList,
         levels: &[usize],
     ) -> Result<(), AllocError>
         requires grown { IsGrown explorer.now frees.now rows.now levels.now }

@@ -10,7 +10,7 @@ ghost use Rattle.feasibility.specs.Taking.{IsFreeKnown, IsLeastTaken, NoneTaken}
 
 use crate::explorer::{Explorer, free_code};
 use crate::marks::Marks;
-use crate::row::Row;
+use crate::row_list::RowList;
 use crate::row_search::next_marked;
 use crate::state_id::StateId;
 use crate::table::Table;
@@ -58,7 +58,7 @@ fn free_taken(
 // The least code with a node past the bound that can be taken, and the state after it.
 fn node_taken<L: Ledger>(
     explorer: &Explorer,
-    rows: &[Row],
+    rows: &RowList,
     marks: &Marks,
     id: StateId,
     bound: Option<Code>,
@@ -76,7 +76,7 @@ fn node_taken<L: Ledger>(
     if rest == 0 {
         None
     } else {
-        next_marked(&rows[id.0], marks, rest - 1, bound, steps)
+        next_marked(rows.get(id.0), marks, rest - 1, bound, steps)
     }
 }
 

@@ -31,19 +31,18 @@ impl Row {
         }
     }
 
-    /// How many there are.
-    pub(crate) fn len(&self) -> usize
-        ensures { result ≡ length self.now }
+    /// Takes all away. Its memory stays.
+    pub(crate) fn clear(&mut self)
+        ensures { self.new ≡ [] }
     {
-        self.arcs.len()
+        self.arcs.clear();
     }
 
-    /// The one at a place, counted from 0.
-    pub(crate) fn arc(&self, place: usize) -> Arc
-        requires { place < length self.now }
-        ensures { slice_get self.now place ≡ Some result }
+    /// The arcs, ascending.
+    pub(crate) fn arcs(&self) -> &[Arc]
+        ensures { result.now ≡ self.now }
     {
-        self.arcs[place]
+        &self.arcs
     }
 
     /// Adds one behind the others: the last one is extended where it goes on to it.

@@ -7,7 +7,6 @@ ghost use Rattle.feasibility.specs.Taking.{AreListed, AreSkipped, IsInOrder, IsL
 
 use crate::arc::Arc;
 use crate::marks::Marks;
-use crate::row::Row;
 use crate::state_id::StateId;
 use crate::successors::{covers, up_to};
 use outside::Steps;
@@ -68,7 +67,7 @@ fn past(arc: Arc, bound: Option<Code>) -> Option<Code>
 }
 
 // How many arcs of a row have no code past the bound: all but one of those whose first code isn't greater.
-fn skipped(row: &Row, bound: Option<Code>) -> usize
+fn skipped(row: &[Arc], bound: Option<Code>) -> usize
     requires { IsInOrder row.now }
     ensures most { result ≤ length row.now }
     ensures none { AreSkipped row.now (option_map code_of bound) result }
@@ -107,7 +106,7 @@ fn probe<L: Ledger>(
 /// The least code past the bound by which a row leads to a marked state, and that state.
 #[tactic(auto, using(crate::proofs::Searching::none_first, crate::proofs::Searching::none_last, crate::proofs::Searching::none_here))]
 pub(crate) fn next_marked<L: Ledger>(
-    row: &Row,
+    row: &[Arc],
     marks: &Marks,
     left: usize,
     bound: Option<Code>,
@@ -121,7 +120,7 @@ pub(crate) fn next_marked<L: Ledger>(
     ensures ticked { steps.old ≤ steps.new }
 {
     for place in skipped(row, bound)..row.len() {
-        if let Some(taken) = probe(row.arc(place), marks, left, bound, steps) {
+        if let Some(taken) = probe(row[place], marks, left, bound, steps) {
             return Some(taken);
         }
     }

@@ -220,8 +220,8 @@ impl Explorer {
         self.fill_openings(alloc, from, row, steps)
     }
 
-    // The row of a state, made of an empty one.
-    fn fill_row<L: Ledger>(
+    /// What leads from a state by codes with a node, added to an empty row.
+    pub(crate) fn fill_row<L: Ledger>(
         &mut self,
         alloc: Global,
         from: StateId,
@@ -243,27 +243,6 @@ impl Explorer {
             Place::AfterText => self.fill_openings(alloc, from, row, steps),
             Place::Fresh | Place::AfterElement => self.fill_content(alloc, from, row, steps),
         }
-    }
-
-    /// What leads from a state by codes with a node.
-    pub(crate) fn row<L: Ledger>(
-        &mut self,
-        alloc: Global,
-        from: StateId,
-        steps: &mut Steps<L>,
-    ) -> Result<Row, Refusal>
-        requires exploring { IsExploring self.old }
-        requires from { from.0 < length (found self.old) }
-        requires reached { IsReachedBefore self.old from.0 1 }
-        ensures row { IfOk result (λ r. IsRowOf self.new from.0 r) }
-        ensures finds { Finds self.old self.new }
-        ensures exploring { IsExploring self.new }
-        ensures full { IfErr result (IsRightly self.old) }
-        ensures ticks { steps.new ≤ steps.old + row_total (names self.old) (groups_of self.old) }
-    {
-        let mut row = Row::new(alloc);
-        self.fill_row(alloc, from, &mut row, steps)?;
-        Ok(row)
     }
 
     // The pattern of a state.

@@ -4,7 +4,7 @@ ghost use Rattle.feasibility.specs.Growing.{AreGrown, IsBegun, IsExtent, IsNew};
 
 use crate::explorer::Explorer;
 use crate::note::note;
-use crate::row::Row;
+use crate::row_list::RowList;
 use crate::starting::add_dead;
 use crate::state_id::StateId;
 use std::alloc::{AllocError, Global};
@@ -16,7 +16,7 @@ pub(crate) struct States {
     /// Where the one code without a node leads from each state.
     pub(crate) frees: Vec<Option<StateId>>,
     /// What the other codes lead to, from the states that fewer nodes reach.
-    pub(crate) rows: Vec<Row>,
+    pub(crate) rows: RowList,
     /// How many states each size so far reaches: states stand in the order of their least counts.
     pub(crate) levels: Vec<usize>,
 }
@@ -34,13 +34,13 @@ impl States {
     pub(crate) fn new(alloc: Global, explorer: Explorer) -> States
         ensures explorer { result.explorer ≡ explorer }
         ensures frees { result.frees.items ≡ [] }
-        ensures rows { result.rows.items ≡ [] }
+        ensures rows { result.rows ≡ [] }
         ensures levels { result.levels.items ≡ [] }
     {
         States {
             explorer,
             frees: Vec::new(alloc),
-            rows: Vec::new(alloc),
+            rows: RowList::new(alloc),
             levels: Vec::new(alloc),
         }
     }

@@ -15,7 +15,7 @@ ghost use Rattle.feasibility.specs.Taking.{GoesNowhere, GoesTo, IsDeadEnd, IsInO
 
 use crate::arc::Arc;
 use crate::explorer::Explorer;
-use crate::row::Row;
+use crate::row_list::RowList;
 use crate::state_id::StateId;
 use crate::table::Table;
 use derivatives::Place;
@@ -38,7 +38,7 @@ pub(crate) fn covers(arc: Arc, code: Code) -> bool
 }
 
 // How many arcs of a row have a first code that isn't greater than the code.
-pub(crate) fn up_to(row: &Row, code: Code) -> usize
+pub(crate) fn up_to(row: &[Arc], code: Code) -> usize
     requires { IsInOrder row.now }
     ensures { IsUpTo row.now (code_of code) result }
 {
@@ -46,7 +46,7 @@ pub(crate) fn up_to(row: &Row, code: Code) -> usize
     let mut high = row.len();
     'halving: while low < high {
         let middle = low + (high - low) / 2;
-        if row.arc(middle).first.compare(&code).is_gt() {
+        if row[middle].first.compare(&code).is_gt() {
             high = middle;
         } else {
             low = middle + 1;
@@ -56,7 +56,7 @@ pub(crate) fn up_to(row: &Row, code: Code) -> usize
 }
 
 // Where a row leads by a code.
-pub(crate) fn after(row: &Row, code: Code) -> Option<StateId>
+pub(crate) fn after(row: &[Arc], code: Code) -> Option<StateId>
     requires { IsInOrder row.now }
     ensures some { IfSome result (λ next. GoesTo row.now (code_of code) next.0) }
     ensures none { IfNone result (GoesNowhere row.now (code_of code)) }
@@ -65,7 +65,7 @@ pub(crate) fn after(row: &Row, code: Code) -> Option<StateId>
     if count == 0 {
         return None;
     }
-    let arc = row.arc(count - 1);
+    let arc = row[count - 1];
     if covers(arc, code) {
         Some(arc.next)
     } else {
@@ -115,7 +115,7 @@ fn is_tag(place: Place) -> bool
 fn free_after(
     explorer: &Explorer,
     frees: &[Option<StateId>],
-    rows: &[Row],
+    rows: &RowList,
     id: StateId,
     code: Code,
 ) -> Option<StateId>
@@ -135,7 +135,7 @@ fn free_after(
 fn after_code(
     explorer: &Explorer,
     frees: &[Option<StateId>],
-    rows: &[Row],
+    rows: &RowList,
     id: StateId,
     code: Code,
 ) -> Option<StateId>
@@ -145,7 +145,7 @@ fn after_code(
     ensures none { IfNone result (IsDeadEnd explorer.now id.0 (code_of code)) }
 {
     if has_node(code) {
-        after(&rows[id.0], code)
+        after(rows.get(id.0), code)
     } else {
         free_after(explorer, frees, rows, id, code)
     }

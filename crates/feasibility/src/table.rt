@@ -59,7 +59,7 @@ impl Model for Table {
       limit = t.states.explorer.limit;
       grown = t.states.explorer.level;
       states = found t.states.explorer;
-      spent = spent_on (names t.states.explorer) (groups_of t.states.explorer) (length (found t.states.explorer)) (length t.states.rows.items);
+      spent = spent_on (names t.states.explorer) (groups_of t.states.explorer) (length (found t.states.explorer)) (length t.states.rows);
     } };
 
     ghost invariant = { λ t. AreFilled t.states t.marks };

@@ -1,4 +1,4 @@
-use Rattle.std.proofs.Common.{length, arith, rules}
+use Rattle.std.proofs.Common.{arith, rules}
 use Rattle.feasibility.specs.Exploring.{IsRightly}
 use Rattle.feasibility.proofs.Adding.{finds_itself, frees_found, frees_then}
 use Rattle.feasibility.proofs.Moving.{rightly_on}

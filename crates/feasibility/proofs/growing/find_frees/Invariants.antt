@@ -1,4 +1,4 @@
-use Rattle.std.proofs.Common.{◌≡◌, ℕ, ◌+◌, ◌-◌, ◌≤◌, length}
+use Rattle.std.proofs.Common.{◌≡◌, ◌+◌, ◌-◌, length}
 use Rattle.feasibility.specs.Exploring.{found}
 use Rattle.feasibility.specs.Growing.{AddsFrees}
 use Rattle.feasibility.proofs.growing.find_frees.Given as goal

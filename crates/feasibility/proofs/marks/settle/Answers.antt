@@ -1,4 +1,4 @@
-use Rattle.std.proofs.Common.{◌+◌, ◌↔◌, IsTrue, length, sym, ◌∙◌, ap, subst, arith}
+use Rattle.std.proofs.Common.{◌+◌, ◌↔◌, IsTrue, sym, ◌∙◌, ap, subst, arith}
 use Rattle.feasibility.specs.Marking.{Finishes}
 use Rattle.feasibility.proofs.Settling.{alone_pushed, length_pushed, listed_pushed, right_pushed}
 use Rattle.feasibility.proofs.marks.settle.Goals as goal

@@ -1,4 +1,4 @@
-use Rattle.std.proofs.Common.{length, map, arith, IsUtf8, subst}
+use Rattle.std.proofs.Common.{arith, IsUtf8, subst}
 use Rattle.std.proofs.lemmas.Option.{slice_get_within}
 use Rattle.std.proofs.lemmas.List.{length-map}
 use Rattle.text_atoms.specs.Origins.{texts_of}

@@ -1,9 +1,12 @@
-use Rattle.std.proofs.Common.{true≢false, sym, ◌∙◌}
+use Rattle.std.proofs.Common.{◌-◌, true≢false, sym, ◌∙◌, arith}
 use Rattle.skeleton.specs.Views.{code_of}
+use Rattle.feasibility.proofs.Marking.{get_here}
 use Rattle.feasibility.proofs.Ordered.{only_last}
 use Rattle.feasibility.proofs.successors.after.Goals as goal
 
 pub returns-else-covers-clause-none : goal.returns-else-covers-clause-none
 returns-else-covers-clause-none c =
-    only_last c.args.row.now c.requires (code_of c.args.code) c.up_to-count.result c.arc-arc.result c.up_to-count.ensures c.if-count-eq0.false c.arc-arc.ensures
+    let most = c.up_to-count.ensures.most in
+    only_last c.args.row.now c.requires (code_of c.args.code) c.up_to-count.result _ c.up_to-count.ensures c.if-count-eq0.false
+    (get_here c.args.row.now (c.up_to-count.result - 1) _ (omega (arith, most, c.if-count-eq0.false)))
     (λ h. true≢false (sym (c.covers.ensures.1 h) ∙ c.if-covers.false))

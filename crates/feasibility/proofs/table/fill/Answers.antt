@@ -1,4 +1,4 @@
-use Rattle.std.proofs.Common.{◌+◌, ◌≤◌, arith}
+use Rattle.std.proofs.Common.{arith}
 use Rattle.feasibility.proofs.Adding.{on_err}
 use Rattle.feasibility.proofs.Keeping.{keeps_marks, right_grown}
 use Rattle.feasibility.proofs.Tabling.{few_costs}

@@ -1,5 +1,4 @@
 use Rattle.std.proofs.Common.{◌<◌, ◌++◌, ◌∷◌, [], Bool, List, length, sym, ◌∙◌, ap, subst}
-use Rattle.feasibility.specs.Bits.{columns}
 use Rattle.feasibility.proofs.Columns.{are_begun, columns_begin}
 use Rattle.feasibility.proofs.mark_words.MarkWords.begin.Goals as goal
 

@@ -1,4 +1,4 @@
-use Rattle.std.proofs.Common.{◌≡◌, ◌+◌, ◌↔◌, IsTrue, sym, subst, ◌∙◌, ap, arith}
+use Rattle.std.proofs.Common.{◌+◌, ◌↔◌, IsTrue, sym, subst, ◌∙◌, ap, arith}
 use Rattle.feasibility.specs.Marking.{FinishesFirst, end_of}
 use Rattle.feasibility.proofs.Marking.{block_end, block_push}
 use Rattle.feasibility.proofs.marks.Marks.block.Goals as goal

@@ -1,4 +1,4 @@
-use Rattle.std.proofs.Common.{List, Bool, length, take, set, ◌∙◌, ap, arith}
+use Rattle.std.proofs.Common.{List, Bool, take, set, ◌∙◌, ap, arith}
 use Rattle.feasibility.proofs.Marking.{cut_step, length-set_same}
 use Rattle.feasibility.proofs.marks.Marks.cut.Goals as goal
 

@@ -1,4 +1,4 @@
-use Rattle.std.proofs.Common.{◌≡◌, ◌-◌, get_or, arith}
+use Rattle.std.proofs.Common.{◌-◌, get_or, arith}
 use Rattle.feasibility.proofs.Keeping.{keeps_then}
 use Rattle.feasibility.proofs.Marking.{closed_at, get_here, marked_more, ready_at}
 use Rattle.feasibility.proofs.marks.Marks.grow.Goals as goal

@@ -1,4 +1,4 @@
-use Rattle.std.proofs.Common.{◌≡◌, ℕ, ◌+◌, ◌*◌, ◌≤◌, List, [], ◌∷◌, ◌++◌, length, sym, ◌∙◌, ap, subst, arith, rules}
+use Rattle.std.proofs.Common.{ℕ, ◌+◌, List, [], ◌∷◌, ◌++◌, length, sym, ◌∙◌, ap, subst, arith, rules}
 use Rattle.std.proofs.lemmas.List.{append-nil}
 use Rattle.feasibility.specs.Exploring.{IsRightly, groups_of, names}
 use Rattle.feasibility.specs.Grown.{IsGrown, row_total}
@@ -28,7 +28,7 @@ returns-in_err-find_rows-clause-level g c = c.find_rows.ensures.adds.finds.level
 
 pub returns-in_err-find_rows-clause-on : goal.returns-in_err-find_rows-clause-on
 returns-in_err-find_rows-clause-on g c =
-    level_rows c.args.self.now.explorer c.find_rows.new.explorer c.find_rows.new.explorer c.args.self.now.frees.items c.args.self.now.frees.items c.args.self.now.rows.items c.find_rows.new.rows.items c.args.self.now.levels.items
+    level_rows c.args.self.now.explorer c.find_rows.new.explorer c.find_rows.new.explorer c.args.self.now.frees.items c.args.self.now.frees.items c.args.self.now.rows c.find_rows.new.rows c.args.self.now.levels.items
     c.args.self.now.levels.items c.find_rows.ensures.adds c.find_rows.ensures.none
 
 pub returns-in_err-find_rows-clause-tick : goal.returns-in_err-find_rows-clause-tick
@@ -44,7 +44,7 @@ returns-in_err-find_frees-clause-level g c = c.find_frees.ensures.adds.finds.lev
 
 pub returns-in_err-find_frees-clause-on : goal.returns-in_err-find_frees-clause-on
 returns-in_err-find_frees-clause-on g c =
-    level_frees c.args.self.now.explorer c.find_rows.new.explorer c.find_frees.new.explorer c.args.self.now.frees.items c.find_frees.new.frees.items c.args.self.now.rows.items c.find_rows.new.rows.items
+    level_frees c.args.self.now.explorer c.find_rows.new.explorer c.find_frees.new.explorer c.args.self.now.frees.items c.find_frees.new.frees.items c.args.self.now.rows c.find_rows.new.rows
     c.args.self.now.levels.items c.args.self.now.levels.items c.find_rows.ensures.adds c.find_rows.ensures.none c.find_frees.ensures.adds c.find_frees.ensures.none (begins_itself c.args.self.now.levels.items)
 
 pub returns-in_err-find_frees-clause-full : goal.returns-in_err-find_frees-clause-full
@@ -61,7 +61,7 @@ returns-in_err-find_frees-clause-tick g c =
     let same = c.find_rows.ensures.adds.finds.limit in
     let too = c.find_frees.ensures.adds.finds.limit in
     let within = c.find_rows.ensures.adds.rows.within in
-    let h = times r (length c.find_rows.new.rows.items) c.args.self.now.explorer.limit (omega (arith, few, same, within)) in
+    let h = times r (length c.find_rows.new.rows) c.args.self.now.explorer.limit (omega (arith, few, same, within)) in
     on_err c.from_residual-in_err-find_frees.result (omega (arith, h, most, same, too, c.in_ok-find_rows.ensures.ticks, c.find_frees.ensures.ticks))
 
 pub returns-in_err-note-clause-level : goal.returns-in_err-note-clause-level
@@ -69,7 +69,7 @@ returns-in_err-note-clause-level g c = c.find_frees.ensures.adds.finds.level ∙
 
 pub returns-in_err-note-clause-on : goal.returns-in_err-note-clause-on
 returns-in_err-note-clause-on g c =
-    level_frees c.args.self.now.explorer c.find_rows.new.explorer c.find_frees.new.explorer c.args.self.now.frees.items c.find_frees.new.frees.items c.args.self.now.rows.items c.find_rows.new.rows.items
+    level_frees c.args.self.now.explorer c.find_rows.new.explorer c.find_frees.new.explorer c.args.self.now.frees.items c.find_frees.new.frees.items c.args.self.now.rows c.find_rows.new.rows
     c.args.self.now.levels.items _ c.find_rows.ensures.adds c.find_rows.ensures.none c.find_frees.ensures.adds c.find_frees.ensures.none ([], c.in_err-note.ensures.err ∙ sym (append-nil c.args.self.now.levels.items))
 
 pub returns-in_err-note-clause-tick : goal.returns-in_err-note-clause-tick
@@ -80,18 +80,18 @@ returns-in_err-note-clause-tick g c =
     let same = c.find_rows.ensures.adds.finds.limit in
     let too = c.find_frees.ensures.adds.finds.limit in
     let within = c.find_rows.ensures.adds.rows.within in
-    let h = times r (length c.find_rows.new.rows.items) c.args.self.now.explorer.limit (omega (arith, few, same, within)) in
+    let h = times r (length c.find_rows.new.rows) c.args.self.now.explorer.limit (omega (arith, few, same, within)) in
     on_err c.from_residual-in_err-note.result (omega (arith, h, most, same, too, c.in_ok-find_rows.ensures.ticks, c.find_frees.ensures.ticks))
 
 pub returns-clause-grown : goal.returns-clause-grown
 returns-clause-grown g c =
-    let finds = level_finds c.args.self.now.explorer c.find_rows.new.explorer c.find_frees.new.explorer c.args.self.now.frees.items c.find_frees.new.frees.items c.args.self.now.rows.items c.find_rows.new.rows.items
+    let finds = level_finds c.args.self.now.explorer c.find_rows.new.explorer c.find_frees.new.explorer c.args.self.now.frees.items c.find_frees.new.frees.items c.args.self.now.rows c.find_rows.new.rows
     c.args.self.now.levels.items c.args.self.now.levels.items c.find_rows.ensures.adds c.find_rows.ensures.none c.find_frees.ensures.adds in
-    subst (λ (xs : List ℕ). IsGrown c.find_frees.new.explorer c.find_frees.new.frees.items c.find_rows.new.rows.items xs)
+    subst (λ (xs : List ℕ). IsGrown c.find_frees.new.explorer c.find_frees.new.frees.items c.find_rows.new.rows xs)
     (sym (c.in_ok-note.ensures.ok ∙ ap (λ n. c.args.self.now.levels.items ++ n ∷ []) c.count.ensures.count))
-    (grown_next c.args.self.now.explorer c.find_frees.new.explorer c.args.self.now.frees.items c.find_frees.new.frees.items c.args.self.now.rows.items c.find_rows.new.rows.items c.args.self.now.levels.items c.requires.grown
+    (grown_next c.args.self.now.explorer c.find_frees.new.explorer c.args.self.now.frees.items c.find_frees.new.frees.items c.args.self.now.rows c.find_rows.new.rows c.args.self.now.levels.items c.requires.grown
     finds c.find_frees.ensures.adds.exploring c.count.ensures.once (λ z. c.find_frees.ensures.none (c.find_rows.ensures.none z)) c.find_frees.ensures.adds.frees c.in_ok-find_frees.ensures.all
-    (rows_on c.find_rows.new.explorer c.find_frees.new.explorer c.find_frees.ensures.adds.finds c.find_rows.new.rows.items c.find_rows.ensures.adds.rows)
+    (rows_on c.find_rows.new.explorer c.find_frees.new.explorer c.find_frees.ensures.adds.finds c.find_rows.new.rows c.find_rows.ensures.adds.rows)
     (omega (arith, c.in_ok-find_rows.ensures.all, c.count-end.ensures.count)))
 
 pub returns-clause-level : goal.returns-clause-level
@@ -99,7 +99,7 @@ returns-clause-level g c = c.find_frees.ensures.adds.finds.level ∙ c.find_rows
 
 pub returns-clause-on : goal.returns-clause-on
 returns-clause-on g c =
-    level_frees c.args.self.now.explorer c.find_rows.new.explorer c.find_frees.new.explorer c.args.self.now.frees.items c.find_frees.new.frees.items c.args.self.now.rows.items c.find_rows.new.rows.items
+    level_frees c.args.self.now.explorer c.find_rows.new.explorer c.find_frees.new.explorer c.args.self.now.frees.items c.find_frees.new.frees.items c.args.self.now.rows c.find_rows.new.rows
     c.args.self.now.levels.items _ c.find_rows.ensures.adds c.find_rows.ensures.none c.find_frees.ensures.adds c.find_frees.ensures.none (c.count.result ∷ [], c.in_ok-note.ensures.ok)
 
 pub returns-clause-ticks : goal.returns-clause-ticks

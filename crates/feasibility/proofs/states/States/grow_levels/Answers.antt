@@ -1,4 +1,4 @@
-use Rattle.std.proofs.Common.{◌≡◌, ℕ, ◌+◌, ◌≤◌, length, arith, rules}
+use Rattle.std.proofs.Common.{◌≡◌, arith, rules}
 use Rattle.rng_model.specs.States.{ReachesMore}
 use Rattle.feasibility.specs.declared.fault.Refusal.TheVariants.{Full}
 use Rattle.feasibility.specs.Exploring.{names, schema}

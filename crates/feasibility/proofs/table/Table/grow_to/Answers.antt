@@ -1,4 +1,4 @@
-use Rattle.std.proofs.Common.{◌≡◌, ℕ, ◌+◌, ◌*◌, ◌≤◌, max, sym, ◌∙◌, subst, arith}
+use Rattle.std.proofs.Common.{◌≡◌, ◌+◌, ◌*◌, ◌≤◌, max, sym, ◌∙◌, subst, arith}
 use Rattle.rng_model.specs.States.{ReachesMore}
 use Rattle.feasibility.specs.Growing.{parts_of}
 use Rattle.feasibility.specs.Limits.{IsOverLimit}

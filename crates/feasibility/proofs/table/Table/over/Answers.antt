@@ -1,4 +1,4 @@
-use Rattle.std.proofs.Common.{◌≡◌, ◌∙◌, ap}
+use Rattle.std.proofs.Common.{◌∙◌, ap}
 use Rattle.feasibility.specs.declared.explorer.Explorer.{Explorer}
 use Rattle.feasibility.specs.Exploring.{schema}
 use Rattle.feasibility.proofs.Tabling.{new_states, none_spent}
