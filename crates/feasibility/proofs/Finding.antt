@@ -74,9 +74,13 @@ module _ (e f : Explorer) (x : IsExploring e) (p : IsOnlyPool e f) where
     few = rw (found_same, p.limit) x.few;
   }
 
+-- the same states, with other derivatives
+abbrev pub with_machine : Explorer → Machine → Explorer
+with_machine e d = record { derivatives = d; elements = e.elements; attributes = e.attributes; atoms = e.atoms; states = e.states; limit = e.limit; level = e.level }
+
 -- after a step
 pub stepped : (e : Explorer) (d : Machine) → d.numbered.schema ≡ schema e → d.universe ≡ e.derivatives.universe → d.atoms ≡ e.derivatives.atoms → Extends (pool e) d.numbered.pool →
-    IsOnlyPool e (record { derivatives = d; elements = e.elements; attributes = e.attributes; atoms = e.atoms; states = e.states; limit = e.limit; level = e.level })
+    IsOnlyPool e (with_machine e d)
 stepped e d g u a x = record { schema = g; universe = u; atoms = a; groups = refl; limit = refl; level = refl; pool = x; keys = refl }
 
 pub finds_names : (e f : Explorer) → Finds e f → names f ≡ names e

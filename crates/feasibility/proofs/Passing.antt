@@ -6,7 +6,8 @@ use Rattle.rng_model.specs.Codes.{Code}
 use Rattle.rng_model.specs.Texts.{Text, is_white}
 use Rattle.rng_model.specs.Patterns.{Schema, not_allowed}
 use Rattle.rng_model.specs.Universe.{Lists}
-use Rattle.rng_model.specs.Derivatives.{text_step, where_true}
+use Rattle.rng_model.specs.Derivatives.{opening, text_step, where_true}
+use Rattle.rng_model.specs.Names.{Name}
 use Rattle.rng_model.specs.States.{State, Place, IsAllowed, no_name, step}
 use Rattle.table_laws.specs.Reaching.{Leads, weight}
 use Rattle.table_laws.specs.Remainders.{takes_name}
@@ -176,6 +177,26 @@ module _ (g : Schema) (u : Lists) (states : List State) (s : State) where
 
   pub texts_skipped : IsAllowed s.place (code.Chars 0) → ((t : Text) → text_step t s.pattern ≡ not_allowed) → IsRowTo g u states s (code.Opening 0) []
   texts_skipped a h = text_passed 0 a (λ q l k. absurd (k (text_dead q h))) [] texts_start
+
+  -- no opening leads on
+  pub opening_dead : (p : ℕ) → ((name : Name) → opening g name s.pattern ≡ not_allowed) → (step g u s (code.Opening p)).pattern ≡ not_allowed
+  opening_dead p h = go s.place
+    where
+      go : (pl : Place) → (step g u (record { place = pl; pattern = s.pattern }) (code.Opening p)).pattern ≡ not_allowed
+      go (Place.Tag k) = refl
+      go Place.Fresh = h (slice_index_or u.elements p no_name)
+      go Place.AfterText = h (slice_index_or u.elements p no_name)
+      go Place.AfterElement = h (slice_index_or u.elements p no_name)
+
+  pub openings_skipped : (arcs : List Arc) → ((name : Name) → opening g name s.pattern ≡ not_allowed) → IsRowTo g u states s (code.Opening 0) arcs → IsRow g u states s arcs
+  openings_skipped arcs h r = row_ends (code.Opening 0) arcs r go
+    where
+      go : (d : Code) → weight d ≡ 1 → Leads g u s d → IsLess d (code.Opening 0)
+      go (code.Chars q) w leads = tt
+      go (code.Attr m q) w leads = tt
+      go (code.Opening q) w leads = absurd (leads.allowed (opening_dead q h))
+      go code.Body w leads = absurd (omega (arith, w))
+      go code.Closing w leads = absurd (omega (arith, w))
 
   -- nothing comes after the openings
   pub openings_end : (p : ℕ) (arcs : List Arc) → p ≡ length u.elements → IsRowTo g u states s (code.Opening p) arcs → IsRow g u states s arcs

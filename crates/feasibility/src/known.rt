@@ -25,7 +25,7 @@ impl Model for Known {
 fn empty_lists(alloc: Global, count: usize) -> Result<Vec<Vec<Option<PatternId>>>, AllocError>
     ensures { IfOk result (λ lists. map (λ list. list.items) lists.items ≡ replicate count []) }
 {
-    let mut lists = Vec::new(alloc);
+    let mut lists = Vec::with_capacity(alloc, count)?;
     for _ in 0..count {
         lists.push(Vec::new(alloc))?;
     }

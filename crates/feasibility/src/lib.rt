@@ -25,6 +25,7 @@ mod state_id;
 mod states;
 mod successors;
 mod table;
+mod trying;
 
 pub use fault::TableFault;
 pub use state_id::StateId;

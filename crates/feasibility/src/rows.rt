@@ -3,12 +3,11 @@ ghost use Rattle.std.specs.Prelude.{◌≡◌, ℕ, ◌+◌, ◌*◌, ◌<◌, �
 ghost use Rattle.rng_model.specs.Alike.{group_count, inked_count};
 ghost use Rattle.rng_model.specs.Codes.{Attr, Chars, Opening};
 ghost use Rattle.rng_model.specs.States.{IsAllowed, Tag};
-ghost use Rattle.pattern_intern.specs.Stored.{count, tree_at};
 ghost use Rattle.feasibility.specs.Costs.{names_cost};
 ghost use Rattle.feasibility.specs.Families.{IsSmall};
 ghost use Rattle.feasibility.specs.Grown.{row_total};
 ghost use Rattle.feasibility.specs.declared.family.Family.TheVariants as family;
-ghost use Rattle.feasibility.specs.Exploring.{AreKnown, IsExploring, IsReachedBefore, IsRightly, IsRowAt, IsRowOf, Finds, at, found, groups_of, names, pool};
+ghost use Rattle.feasibility.specs.Exploring.{AreKnown, IsExploring, IsReachedBefore, IsRightly, IsRowAt, IsRowOf, Finds, at, found, groups_of, names};
 
 use crate::explorer::Explorer;
 use crate::family::Family;
@@ -18,7 +17,6 @@ use crate::row::Row;
 use crate::state_id::StateId;
 use derivatives::Place;
 use outside::Steps;
-use pattern_intern::PatternId;
 use std::alloc::Global;
 use std::sync::ledger::Ledger;
 
@@ -86,8 +84,7 @@ impl Explorer {
         ensures ticks { OnOk result (steps.new + names_cost self.old known.new ≤ steps.old + names_cost self.old known.old) }
         ensures most { steps.new ≤ steps.old + names_cost self.old known.old }
     {
-        let pattern = self.pattern(from);
-        if self.derivatives.takes_name(pattern, name)? {
+        if self.takes_name(from, name)? {
             self.fill_name(alloc, from, name, known, row, steps)
         } else {
             Ok(())
@@ -166,12 +163,34 @@ impl Explorer {
         ensures full { IfErr result (IsRightly self.old) }
         ensures most { steps.new ≤ steps.old + inked_count 0 (names self.old).atoms (groups_of self.old).atoms }
     {
-        let pattern = self.pattern(from);
-        if self.derivatives.takes_text(pattern)? {
-            let mut known = Vec::new(alloc);
+        if self.takes_text(from)? {
+            let mut known = Vec::with_capacity(alloc, self.atoms.count())?;
             self.fill(from, Family::Texts, &mut known, row, steps)?;
         }
         Ok(())
+    }
+
+    // Adds all openings to a row, which is whole then.
+    fn fill_elements<L: Ledger>(
+        &mut self,
+        alloc: Global,
+        from: StateId,
+        row: &mut Row,
+        steps: &mut Steps<L>,
+    ) -> Result<(), Refusal>
+        requires exploring { IsExploring self.old }
+        requires from { from.0 < length (found self.old) }
+        requires reached { IsReachedBefore self.old from.0 1 }
+        requires allowed { IsAllowed (at self.old from.0).place (Opening 0) }
+        requires row { IsRowAt self.old from.0 family.Openings 0 row.old }
+        ensures row { OnOk result (IsRowOf self.new from.0 row.new) }
+        ensures finds { Finds self.old self.new }
+        ensures exploring { IsExploring self.new }
+        ensures full { IfErr result (IsRightly self.old) }
+        ensures most { steps.new ≤ steps.old + group_count (groups_of self.old).elements }
+    {
+        let mut known = Vec::with_capacity(alloc, self.elements.count())?;
+        self.fill(from, Family::Openings, &mut known, row, steps)
     }
 
     // Adds the openings to a row, which is whole then.
@@ -193,8 +212,11 @@ impl Explorer {
         ensures full { IfErr result (IsRightly self.old) }
         ensures most { steps.new ≤ steps.old + group_count (groups_of self.old).elements }
     {
-        let mut known = Vec::new(alloc);
-        self.fill(from, Family::Openings, &mut known, row, steps)
+        if self.takes_element(from)? {
+            self.fill_elements(alloc, from, row, steps)
+        } else {
+            Ok(())
+        }
     }
 
     // The row of a state at which texts are allowed.
@@ -243,15 +265,5 @@ impl Explorer {
             Place::AfterText => self.fill_openings(alloc, from, row, steps),
             Place::Fresh | Place::AfterElement => self.fill_content(alloc, from, row, steps),
         }
-    }
-
-    // The pattern of a state.
-    fn pattern(&self, id: StateId) -> PatternId
-        requires exploring { IsExploring self.now }
-        requires from { id.0 < length (found self.now) }
-        ensures within { result.0 < count (pool self.now) }
-        ensures is { tree_at (pool self.now) result.0 ≡ (at self.now id.0).pattern }
-    {
-        self.states.as_slice()[id.0].pattern
     }
 }
