@@ -43,7 +43,7 @@ fn time_grouping(rt: &HostRuntime, literals: &Literals) -> io::Result<()> {
 }
 
 /// Times a benchmark of atoms. False where it isn't one.
-pub fn time_atoms(rt: &HostRuntime, name: &str) -> io::Result<bool> {
+pub(crate) fn time_atoms(rt: &HostRuntime, name: &str) -> io::Result<bool> {
     match name {
         "atoms" => time_making(rt, &literals(rt.alloc())?)?,
         "alike" => time_grouping(rt, &literals(rt.alloc())?)?,

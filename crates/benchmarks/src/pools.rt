@@ -162,7 +162,7 @@ fn make(alloc: Global, pool: &mut Pool, name: &str) -> Result<bool, AllocError> 
 }
 
 /// Times a benchmark of the pool of patterns, and says how many nodes it made. False where it isn't one.
-pub fn time_pool(rt: &HostRuntime, name: &str) -> io::Result<bool> {
+pub(crate) fn time_pool(rt: &HostRuntime, name: &str) -> io::Result<bool> {
     let mut pool = Pool::new(rt.alloc())?;
     let start = Instant::now(rt)?;
     let is_made = make(rt.alloc(), &mut pool, name)?;

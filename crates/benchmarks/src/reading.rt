@@ -71,7 +71,7 @@ fn token_count(alloc: Global, schema: &[u8]) -> usize {
 }
 
 /// Times a benchmark of the lexer. False where it isn't one.
-pub fn time_lexer(rt: &HostRuntime, name: &str) -> io::Result<bool> {
+pub(crate) fn time_lexer(rt: &HostRuntime, name: &str) -> io::Result<bool> {
     let Some(piece) = piece_of(name) else {
         return Ok(false);
     };
@@ -96,7 +96,7 @@ fn time_tokens(rt: &HostRuntime, name: &str, tokens: &Tokens) -> io::Result<()> 
 }
 
 /// Times a benchmark of the parser. False where it isn't one.
-pub fn time_parser(rt: &HostRuntime, name: &str) -> io::Result<bool> {
+pub(crate) fn time_parser(rt: &HostRuntime, name: &str) -> io::Result<bool> {
     let Some(piece) = parsed_piece_of(name) else {
         return Ok(false);
     };
@@ -111,7 +111,7 @@ pub fn time_parser(rt: &HostRuntime, name: &str) -> io::Result<bool> {
 }
 
 /// Times a benchmark of the reader of documents. False where it isn't one.
-pub fn time_reader(rt: &HostRuntime, name: &str) -> io::Result<bool> {
+pub(crate) fn time_reader(rt: &HostRuntime, name: &str) -> io::Result<bool> {
     let Some(lines) = lines_of(name) else {
         return Ok(false);
     };
