@@ -1,4 +1,5 @@
 use Rattle.std.proofs.Common.{◌∙◌, ap}
+use Rattle.std.proofs.lemmas.Result.{IfOk-from_err}
 use Rattle.feasibility.specs.declared.explorer.Explorer.{Explorer}
 use Rattle.feasibility.specs.Exploring.{schema}
 use Rattle.feasibility.proofs.Tabling.{new_states, none_spent}
@@ -29,3 +30,15 @@ returns-clause-empty c = (
   c.in_ok-begin.ensures.begun.finds.level ∙ ap (λ (e : Explorer). e.level) c.new-states.ensures.explorer ∙ c.requires.level,
   none_spent c.begin.new.states c.in_ok-begin.ensures.begun.one c.in_ok-begin.ensures.begun.rows,
 )
+
+pub returns-in_err-begin-clause-schema : goal.returns-in_err-begin-clause-schema
+returns-in_err-begin-clause-schema c = IfOk-from_err c.from_residual.result _ c.from_residual.ensures.0
+
+pub returns-in_err-begin-clause-lists : goal.returns-in_err-begin-clause-lists
+returns-in_err-begin-clause-lists c = IfOk-from_err c.from_residual.result _ c.from_residual.ensures.0
+
+pub returns-in_err-begin-clause-limit : goal.returns-in_err-begin-clause-limit
+returns-in_err-begin-clause-limit c = IfOk-from_err c.from_residual.result _ c.from_residual.ensures.0
+
+pub returns-in_err-begin-clause-empty : goal.returns-in_err-begin-clause-empty
+returns-in_err-begin-clause-empty c = IfOk-from_err c.from_residual.result _ c.from_residual.ensures.0
