@@ -83,6 +83,8 @@ fn node_taken<L: Ledger>(
 impl Table {
     /// The least code past the bound with which the state can go on so that it can finish with exactly `rest` nodes in all, and the state after
     /// it. It counts at least one step, and takes no memory.
+    // A walk calls it for each code: in its own loops the answer stays in registers.
+    #[inline(always)]
     pub fn next_code<L: Ledger>(
         &self,
         id: StateId,

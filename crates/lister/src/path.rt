@@ -92,12 +92,15 @@ impl Path {
     }
 
     /// Adds a code and the state before it, where one stands before each of the codes.
+    #[inline(always)]
     pub fn push_step(&mut self, id: StateId, code: Code)
         requires codes { length self.old.codes < 3 * self.old.room }
         requires level { length self.old.states ≡ length self.old.codes }
         ensures { self.new ≡ with_step self.old id.0 (code_of code) }
     {
-        let standing = self.standing;
+        // field by field, so that no padding is copied
+        let Standing { depth, in_tag } = self.standing;
+        let standing = Standing { depth, in_tag };
         self.standing = after(standing, code);
         self.codes.push(code).unwrap();
         self.steps.push(Step { id, standing }).unwrap();
