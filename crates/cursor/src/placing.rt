@@ -1,5 +1,5 @@
 // Whether a cursor is listed.
-ghost use Rattle.std.specs.Prelude.{◌≡◌, ℕ, ◌+◌, ◌*◌, ◌≤◌, IfErr, OnOk};
+ghost use Rattle.std.specs.Prelude.{◌+◌, ◌*◌, ◌≤◌, IfErr, OnOk};
 ghost use Rattle.rng_model.specs.Hedges.{size};
 ghost use Rattle.rng_model.specs.Listing.{IsListed};
 ghost use Rattle.feasibility.specs.Tables.{lists};

@@ -1,5 +1,5 @@
 // Marks of the states of one size.
-ghost use Rattle.std.specs.Prelude.{◌≡◌, ◌+◌, ◌≤◌, ◌<◌, [], ◌∷◌, ◌++◌, ℕ, Some, length, slice_get, OnOk};
+ghost use Rattle.std.specs.Prelude.{◌≡◌, ◌+◌, ◌≤◌, ◌<◌, [], ◌∷◌, ◌++◌, ℕ, Some, slice_get, OnOk};
 ghost use Rattle.feasibility.specs.Marking.{end_of};
 
 use std::alloc::{AllocError, Global};

@@ -1,7 +1,6 @@
 // The search for the states that a schema's codes reach.
-ghost use Rattle.std.specs.Prelude.{◌≡◌, ◌≢◌, ℕ, ◌+◌, ◌<◌, ◌≤◌, [], ◌∷◌, ◌++◌, Contains, IfOk, IfErr, OnOk, OnErr, Some, length, slice_get};
+ghost use Rattle.std.specs.Prelude.{◌≡◌, ◌+◌, ◌<◌, [], ◌∷◌, ◌++◌, Contains, IfOk, IfErr, OnOk, OnErr, Some, length};
 ghost use Rattle.rng_model.specs.Codes.{IsInRange};
-ghost use Rattle.rng_model.specs.Patterns.{not_allowed};
 ghost use Rattle.rng_model.specs.States.{IsAllowed, Reach, step};
 ghost use Rattle.skeleton.specs.Views.{code_of};
 ghost use Rattle.pattern_intern.specs.Stored.{count};

@@ -1,5 +1,5 @@
 // What leads from a state by the codes of a family.
-ghost use Rattle.std.specs.Prelude.{◌≡◌, ◌≢◌, ℕ, ◌+◌, ◌<◌, ◌≤◌, IfOk, IfErr, OnOk, OnErr, Some, [], length, slice_get, slice_index_or};
+ghost use Rattle.std.specs.Prelude.{◌≡◌, ◌+◌, ◌<◌, ◌≤◌, IfOk, IfErr, OnOk, Some, [], length, slice_get, slice_index_or};
 ghost use Rattle.rng_model.specs.Alike.{group_count};
 ghost use Rattle.rng_model.specs.States.{IsAllowed};
 ghost use Rattle.rng_model.specs.Texts.{is_white};

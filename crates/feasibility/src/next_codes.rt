@@ -1,5 +1,5 @@
 // The least code with which a state can go on.
-ghost use Rattle.std.specs.Prelude.{◌≡◌, ◌+◌, ◌*◌, ◌<◌, ◌≤◌, ◌↔◌, IfNone, IfSome, IsTrue, length, option_map};
+ghost use Rattle.std.specs.Prelude.{◌+◌, ◌*◌, ◌<◌, ◌≤◌, ◌↔◌, IfNone, IfSome, IsTrue, length, option_map};
 ghost use Rattle.rng_model.specs.Universe.{event_count};
 ghost use Rattle.skeleton.specs.Views.{code_of};
 ghost use Rattle.feasibility.specs.Exploring.{IsExploring, names};
@@ -56,6 +56,7 @@ fn free_taken(
 }
 
 // The least code with a node past the bound that can be taken, and the state after it.
+#[inline(always)]
 fn node_taken<L: Ledger>(
     explorer: &Explorer,
     rows: &RowList,

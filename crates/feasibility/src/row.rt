@@ -1,5 +1,5 @@
 // What leads from a state to others.
-ghost use Rattle.std.specs.Prelude.{◌≡◌, ◌<◌, [], Some, length, slice_get, OnOk, OnErr};
+ghost use Rattle.std.specs.Prelude.{◌≡◌, ◌<◌, [], OnOk, OnErr};
 ghost use Rattle.feasibility.specs.Runs.{IsAdded};
 
 use crate::arc::Arc;

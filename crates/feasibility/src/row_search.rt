@@ -104,6 +104,7 @@ fn probe<L: Ledger>(
 }
 
 /// The least code past the bound by which a row leads to a marked state, and that state.
+#[inline(always)]
 #[tactic(auto, using(crate::proofs::Searching::none_first, crate::proofs::Searching::none_last, crate::proofs::Searching::none_here))]
 pub(crate) fn next_marked<L: Ledger>(
     row: &[Arc],

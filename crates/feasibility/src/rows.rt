@@ -1,5 +1,5 @@
 // What leads from a state by all codes with a node.
-ghost use Rattle.std.specs.Prelude.{◌≡◌, ℕ, ◌+◌, ◌*◌, ◌<◌, ◌≤◌, [], IfOk, IfErr, OnOk, length};
+ghost use Rattle.std.specs.Prelude.{◌≡◌, ◌+◌, ◌*◌, ◌<◌, ◌≤◌, [], IfErr, OnOk, length};
 ghost use Rattle.rng_model.specs.Alike.{group_count, inked_count};
 ghost use Rattle.rng_model.specs.Codes.{Attr, Chars, Opening};
 ghost use Rattle.rng_model.specs.States.{IsAllowed, Tag};

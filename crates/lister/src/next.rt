@@ -4,7 +4,6 @@ ghost use Rattle.rng_model.specs.Codes.{nodes as node_count};
 ghost use Rattle.rng_model.specs.Universe.{event_count};
 ghost use Rattle.feasibility.specs.Tables.{lists};
 ghost use Rattle.lister.specs.Walks.{IsWalkOf, IsStep, IsSet};
-ghost use Rattle.lister.specs.Paths.{IsKept};
 ghost use Rattle.lister.specs.Descents.{IsDocument};
 ghost use Rattle.lister.specs.Phases.{IsSound, IsFoundFirst, IsFoundNext, StandsAtFound, IsUnchanged, found_stage, stage_of};
 
