@@ -26,7 +26,7 @@ few_open o [] = omega arith
 few_open o (c ∷ cs) = let a = one_deeper o c in let b = few_open (open_after o c) cs in omega arith
 
 -- no more elements are open than there are codes
-pub depth_within : (codes : List coded.Code) (steps : List Step) (s : Standing) → AreStandings codes steps s → s.depth ≤ length codes
+pub depth_within : (codes : List coded.Code) (steps : List Step) (s : Standing) → AreStandings codes steps s → (open_of s).depth ≤ length codes
 depth_within codes steps s a = let e = ap (λ o. o.depth) a.after in let f = few_open nothing_open (map code_of codes) in omega (arith, length-map codes code_of)
 
 at_more : (codes : List coded.Code) (c : coded.Code) → open_after (open_at (map code_of codes)) (code_of c) ≡ open_at (map code_of (codes ++ (c ∷ [])))

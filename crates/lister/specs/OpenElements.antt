@@ -1,6 +1,7 @@
 -- What is open after codes, and the end of a document in which no node is left: this project's own.
 use Rattle.std.specs.Prelude.{Bool, true, false, ℕ, ◌+◌, ◌-◌, List, [], ◌∷◌, ◌++◌, zero, suc}
 use Rattle.lister.specs.declared.standing.Standing.{Standing}
+use Rattle.lister.specs.declared.standing.Standing.TheVariants as standing
 use Rattle.rng_model.specs.Codes.{Code, Opening, Attr, Body, Chars, Closing}
 
 -- how many elements are open, and whether the tag of the innermost one is
@@ -9,7 +10,8 @@ pub record Open : Type 0 where
   pub in_tag : Bool
 
 abbrev pub open_of : Standing → Open
-open_of s = record { depth = s.depth; in_tag = s.in_tag }
+open_of (standing.InTag d) = record { depth = d; in_tag = true }
+open_of (standing.NoTag d) = record { depth = d; in_tag = false }
 
 abbrev pub open_after : Open → Code → Open
 open_after o (Opening i) = record { depth = o.depth + 1; in_tag = true }

@@ -2,9 +2,10 @@
 ghost use Rattle.std.specs.Prelude.{◌≡◌, ◌+◌, ◌++◌, ◌*◌, ◌≤◌, length};
 ghost use Rattle.table_laws.specs.Reaching.{weight};
 ghost use Rattle.skeleton.specs.Views.{code_of};
-ghost use Rattle.lister.specs.OpenElements.{open_at, body_if, ending_codes};
+ghost use Rattle.lister.specs.OpenElements.{open_at, closings, ending_codes};
 
 use crate::path::Path;
+use crate::standing::Standing;
 use skeleton::Code;
 
 /// How many nodes a code has: one, or none for the end of a tag or an element.
@@ -17,15 +18,15 @@ pub(crate) fn nodes(code: Code) -> usize
     }
 }
 
-// Ends the tag, if one is open.
-fn close_tag(path: &mut Path, in_tag: bool)
-    requires { length path.old.codes + length (body_if in_tag) ≤ 3 * path.old.room }
-    ensures codes { path.new.codes ≡ path.old.codes ++ body_if in_tag }
+// Ends so many elements.
+fn close_elements(path: &mut Path, depth: usize)
+    requires { length path.old.codes + length (closings depth) ≤ 3 * path.old.room }
+    ensures codes { path.new.codes ≡ path.old.codes ++ closings depth }
     ensures states { path.new.states ≡ path.old.states }
     ensures room { path.new.room ≡ path.old.room }
 {
-    if in_tag {
-        path.push(Code::Body);
+    for _ in 0..depth {
+        path.push(Code::Closing);
     }
 }
 
@@ -36,9 +37,11 @@ pub(crate) fn close_all(path: &mut Path)
     ensures states { path.new.states ≡ path.old.states }
     ensures room { path.new.room ≡ path.old.room }
 {
-    let open = path.standing();
-    close_tag(path, open.in_tag);
-    for _ in 0..open.depth {
-        path.push(Code::Closing);
+    match path.standing() {
+        Standing::InTag(depth) => {
+            path.push(Code::Body);
+            close_elements(path, depth);
+        }
+        Standing::NoTag(depth) => close_elements(path, depth),
     }
 }

@@ -98,9 +98,7 @@ impl Path {
         requires level { length self.old.states ≡ length self.old.codes }
         ensures { self.new ≡ with_step self.old id.0 (code_of code) }
     {
-        // field by field, so that no padding is copied
-        let Standing { depth, in_tag } = self.standing;
-        let standing = Standing { depth, in_tag };
+        let standing = self.standing;
         self.standing = after(standing, code);
         self.codes.push(code).unwrap();
         self.steps.push(Step { id, standing }).unwrap();

@@ -5,45 +5,42 @@ ghost use Rattle.lister.specs.OpenElements.{nothing_open, open_after, open_of};
 
 use skeleton::Code;
 
-/// How many elements are open after some codes, and whether the tag of the innermost one is.
+/// How many elements are open after some codes, the tag of the innermost one with them or not. It has no padding, which a walk would copy
+/// with each step.
 #[derive(Clone, Copy)]
-pub(crate) struct Standing {
-    pub depth: usize,
-    pub in_tag: bool,
+pub(crate) enum Standing {
+    InTag(usize),
+    NoTag(usize),
+}
+
+impl Standing {
+    /// How many elements are open.
+    pub fn depth(self) -> usize
+        ensures { result ≡ (open_of self).depth }
+    {
+        match self {
+            Standing::InTag(depth) | Standing::NoTag(depth) => depth,
+        }
+    }
 }
 
 /// Nothing is open before the first code.
 pub(crate) fn at_start() -> Standing
     ensures { open_of result ≡ nothing_open }
 {
-    Standing {
-        depth: 0,
-        in_tag: false,
-    }
+    Standing::NoTag(0)
 }
 
 /// What is open after one code more.
 pub(crate) fn after(standing: Standing, code: Code) -> Standing
-    requires { standing.depth < 1000 }
+    requires { (open_of standing).depth < 1000 }
     ensures { open_of result ≡ open_after (open_of standing) (code_of code) }
 {
-    let depth = standing.depth;
+    let depth = standing.depth();
     match code {
-        Code::Opening(_) => Standing {
-            depth: depth + 1,
-            in_tag: true,
-        },
-        Code::Attr(_, _) => Standing {
-            depth,
-            in_tag: true,
-        },
-        Code::Body | Code::Chars(_) => Standing {
-            depth,
-            in_tag: false,
-        },
-        Code::Closing => Standing {
-            depth: depth.saturating_sub(1),
-            in_tag: false,
-        },
+        Code::Opening(_) => Standing::InTag(depth + 1),
+        Code::Attr(_, _) => Standing::InTag(depth),
+        Code::Body | Code::Chars(_) => Standing::NoTag(depth),
+        Code::Closing => Standing::NoTag(depth.saturating_sub(1)),
     }
 }
