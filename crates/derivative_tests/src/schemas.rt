@@ -1,5 +1,5 @@
 // Schemas over patterns that were made one by one: whether these may stand in a schema is found when the tests are run.
-ghost use Rattle.std.specs.Prelude.{◌≡◌, ℕ, ◌<◌, IfOk};
+ghost use Rattle.std.specs.Prelude.{ℕ, ◌<◌, IfOk};
 ghost use Rattle.std.specs.Bool.{OnTrue};
 ghost use Rattle.rng_model.specs.Patterns.{HasNoAfter};
 ghost use Rattle.pattern_intern.specs.Schemas.{AreRefsBelow, AreWithin, IsSchema};

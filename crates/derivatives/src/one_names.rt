@@ -3,7 +3,7 @@ ghost use Rattle.std.specs.Prelude.{◌≡◌, ◌==◌, ◌<◌, [], length, If
 ghost use Rattle.rng_model.specs.Classes.{in_class};
 ghost use Rattle.name_classes.specs.Views.{class_of};
 ghost use Rattle.name_classes.specs.declared.part.Part.TheVariants as variant;
-ghost use Rattle.pattern_intern.specs.Schemas.{Numbered, definition_at};
+ghost use Rattle.pattern_intern.specs.Schemas.{definition_at};
 ghost use Rattle.rng_model.specs.Names as names;
 ghost use Rattle.derivatives.specs.OneNames.{AreOne, IsOne, Tell};
 

@@ -1,7 +1,6 @@
 // The code of an event.
 ghost use Rattle.std.specs.Prelude.{IfSome, IfNone};
 ghost use Rattle.rng_model.specs.Codes.{IsCode};
-ghost use Rattle.rng_model.specs.Codes as model;
 ghost use Rattle.skeleton.specs.Views.{code_of, event_of};
 ghost use Rattle.event_codes.specs.Positions.{lists_of, HasNoCode};
 

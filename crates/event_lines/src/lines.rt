@@ -1,5 +1,5 @@
 // The lines of events.
-ghost use Rattle.std.specs.Prelude.{◌≡◌, [], codes, flat_map, OnOk, OnErr};
+ghost use Rattle.std.specs.Prelude.{◌≡◌, [], OnOk, OnErr};
 ghost use Rattle.rng_model.specs.Lines.{event_line};
 ghost use Rattle.skeleton.specs.Views.{event_of};
 ghost use Rattle.event_lines.specs.Pieces.{Sends, Fails, progress};

@@ -1,5 +1,5 @@
 // Whether something in the schema is deeper than 1,024 levels.
-ghost use Rattle.std.specs.Prelude.{◌≡◌, ℕ, ◌<◌, ◌≤◌, ◌++◌, List, Some, length, slice_get, Contains, IsTrue, MatchOption};
+ghost use Rattle.std.specs.Prelude.{◌≡◌, ℕ, ◌<◌, ◌≤◌, ◌++◌, List, Some, length, slice_get, IsTrue, MatchOption};
 ghost use Rattle.rng_model.specs.Depths.{class_depth};
 ghost use Rattle.name_classes.specs.Views.{class_of};
 ghost use Rattle.rng_model.specs.Classes.{Class as ClassValue};

@@ -1,8 +1,7 @@
 //! The schema of a graph's forms: the elements that the start leads to are kept, numbered by the places of their tokens.
 #![tactic(auto)]
 
-ghost use Rattle.std.specs.Prelude.{◌≡◌, length, IfOk, IfErr, slice_get};
-ghost use Rattle.pattern_intern.specs.Stored.{count};
+ghost use Rattle.std.specs.Prelude.{IfOk, IfErr};
 ghost use Rattle.kept_elements.specs.Outcomes.{AreEntries, AreFormsOfGraph, AreKept, IsCause, IsSchemaOf};
 ghost use Rattle.kept_elements.specs.Marking.{AreWanted};
 ghost use Rattle.kept_elements.specs.Renumbering.{AreRemade};

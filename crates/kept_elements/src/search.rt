@@ -1,6 +1,6 @@
 // Which patterns of the pool are wanted.
 ghost use Rattle.std.specs.Prelude.{◌≡◌, ◌<◌, ◌⊎◌, length, IfOk, OnOk};
-ghost use Rattle.pattern_intern.specs.Stored.{count, tree_at};
+ghost use Rattle.pattern_intern.specs.Stored.{count};
 ghost use Rattle.kept_elements.specs.Marking.{AreWanted, Grown, IsFresh, IsMarked, IsWantedAt, Spread};
 ghost use Rattle.kept_elements.specs.Wanted.{IsReady};
 

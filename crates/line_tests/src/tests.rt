@@ -1,5 +1,5 @@
 // The text of a skeleton, how many pieces it is handed over in, and documents one after the other.
-ghost use Rattle.std.specs.Prelude.{◌≡◌, ◌≤◌, [], List, map, take, OnOk};
+ghost use Rattle.std.specs.Prelude.{◌≡◌, [], List, map, take, OnOk};
 ghost use Rattle.rng_model.specs.Codes.{Code as CodeValue};
 ghost use Rattle.skeleton.specs.Views.{code_of as value_of};
 ghost use Rattle.event_lines.specs.Coded.{lists_of};

@@ -1,14 +1,14 @@
 //! Laws of a listing: what it writes before a page is full, before it stops, and when it is whole.
 #![tactic(auto)]
 
-ghost use Rattle.std.specs.Prelude.{◌≡◌, ◌≢◌, ℕ, ◌+◌, ◌≤◌, ◌<◌, Option, Some, None, List, [], ◌∷◌, ◌++◌, length};
+ghost use Rattle.std.specs.Prelude.{◌≡◌, ℕ, ◌+◌, ◌≤◌, ◌<◌, Option, Some, None, List, [], ◌∷◌, ◌++◌, length};
 ghost use Rattle.rng_model.specs.Hedges.{Skeleton, size};
 ghost use Rattle.table_laws.specs.Walking.{codes_cmp, IsOfSize, IsFirst, IsNext, GoesThrough};
 ghost use Rattle.std.specs.List.{AllByRecursion};
 ghost use Rattle.std.specs.declared.cmp.Ordering.TheVariants.{Less};
 ghost use Rattle.rng_model.specs.Universe.{Lists};
 ghost use Rattle.rng_model.specs.Codes.{Code, IsInRange};
-ghost use Rattle.listing_laws.specs.Pending.{Asked, first_size, IsOver, IsStop, IsPending, AreAll, AreFirst, Ending, Ends};
+ghost use Rattle.listing_laws.specs.Pending.{Asked, first_size, IsOver, IsStop, AreAll, AreFirst, Ending, Ends};
 ghost use Rattle.listing_laws.specs.Ranks.{rank, rank_total};
 ghost use Rattle.listing_laws.specs.Fronts.{AreBelow, AreUpTo, IsBehind, NoStopBelow, Fits, BeginsWith};
 

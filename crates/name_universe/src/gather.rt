@@ -1,12 +1,6 @@
 // The names and namespaces that the name classes of a schema mention.
-ghost use Rattle.std.specs.Prelude.{◌≡◌, ◌<◌, [], ◌∷◌, Contains, IfOk, OnOk, length};
-ghost use Rattle.rng_model.specs.Texts.{Text as TextValue};
-ghost use Rattle.rng_model.specs.Names.{Name as NameValue};
-ghost use Rattle.rng_model.specs.Classes.{Class};
+ghost use Rattle.std.specs.Prelude.{◌<◌, IfOk};
 ghost use Rattle.rng_model.specs.Universe.{IsElementClass, IsAttributeClass};
-ghost use Rattle.name_classes.specs.Views.{class_of};
-ghost use Rattle.universe_laws.specs.Overlaps.{names_in, spaces_in};
-ghost use Rattle.name_universe.specs.Sets.{Adds};
 ghost use Rattle.pattern_intern.specs.Attributes.{AreClasses, HasClass};
 ghost use Rattle.name_universe.specs.Tables.{AreMentions};
 

@@ -1,5 +1,5 @@
 // The names and namespaces that stand in name classes.
-ghost use Rattle.std.specs.Prelude.{◌≡◌, [], ◌∷◌, Contains, OnOk};
+ghost use Rattle.std.specs.Prelude.{[], ◌∷◌, OnOk};
 ghost use Rattle.rng_model.specs.Texts.{Text as TextValue};
 ghost use Rattle.rng_model.specs.Names.{Name as NameValue};
 ghost use Rattle.name_classes.specs.Views.{class_of};

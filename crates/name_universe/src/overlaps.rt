@@ -2,7 +2,7 @@
 ghost use Rattle.std.specs.Prelude.{◌≡◌, ◌↔◌, ◌++◌, true, IsUtf8};
 ghost use Rattle.std.specs.List.{list_any};
 ghost use Rattle.rng_model.specs.Names.{IsName};
-ghost use Rattle.rng_model.specs.Classes.{in_class, Overlap};
+ghost use Rattle.rng_model.specs.Classes.{Overlap};
 ghost use Rattle.name_classes.specs.Views.{class_of};
 ghost use Rattle.universe_laws.specs.Overlaps.{names_in, spaces_in, fresh_in, fresh_in_both, stranger_in, in_both, overlaps};
 ghost use Rattle.name_universe.specs.Named.{IsNamed};

@@ -1,5 +1,5 @@
 // The positions of a list of names in blocks.
-ghost use Rattle.std.specs.Prelude.{◌≡◌, ℕ, ◌<◌, ◌+◌, [], false, Some, true, IfOk, OnOk, length, replicate, slice_get};
+ghost use Rattle.std.specs.Prelude.{◌≡◌, ℕ, ◌<◌, [], false, Some, true, IfOk, OnOk, length, replicate, slice_get};
 ghost use Rattle.rng_model.specs.Alike.{AreGroups};
 ghost use Rattle.rng_model.specs.Classes.{in_class, is_infinite};
 ghost use Rattle.name_classes.specs.Views.{class_of};

@@ -5,7 +5,7 @@ ghost use Rattle.std.specs.List.Sorted.{IsStrictlySortedBy};
 ghost use Rattle.rng_model.specs.Names.{IsName, name_cmp};
 ghost use Rattle.rng_model.specs.Patterns.{Schema as SchemaValue};
 ghost use Rattle.rng_model.specs.Universe.{IsElementClass, IsAttributeClass};
-ghost use Rattle.name_universe.specs.Tables.{AreMentions, IsTableOf, IsUniverse, StandsAt};
+ghost use Rattle.name_universe.specs.Tables.{IsUniverse, StandsAt};
 
 use crate::gather::{attribute_mentions, element_mentions};
 use crate::name_list::NameList;

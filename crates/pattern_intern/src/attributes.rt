@@ -1,11 +1,11 @@
 // The name classes of a schema's attributes, each number of its pool visited once, from the greatest down.
-ghost use Rattle.std.specs.Prelude.{◌≡◌, ◌+◌, ◌<◌, ◌⊎◌, ◌↔◌, length, IfOk, OnOk};
+ghost use Rattle.std.specs.Prelude.{◌≡◌, ◌+◌, ◌<◌, ◌⊎◌, ◌↔◌, length, OnOk};
 ghost use Rattle.rng_model.specs.Classes.{Class};
 ghost use Rattle.rng_model.specs.Patterns.{Schema as SchemaValue};
 ghost use Rattle.rng_model.specs.Inside.{IsAttributeOf};
 ghost use Rattle.pattern_intern.specs.Attributes.{AreClasses, HasClass, IsClassSearch};
 ghost use Rattle.pattern_intern.specs.Stored.{count};
-ghost use Rattle.pattern_intern.specs.Trees.{IsNode, PartsBelow, node_tree};
+ghost use Rattle.pattern_intern.specs.Trees.{PartsBelow, node_tree};
 
 use crate::id::{ClassId, PatternId};
 use crate::literals::mark_parts;

@@ -1,5 +1,5 @@
 // How patterns are made: notAllowed and empty are taken away as the section Simplification says.
-ghost use Rattle.std.specs.Prelude.{◌≡◌, ℕ, ◌+◌, ◌<◌, length, IfOk, IfSome, IfNone, OnErr};
+ghost use Rattle.std.specs.Prelude.{◌≡◌, ℕ, ◌+◌, ◌<◌, IfOk, IfSome, IfNone, OnErr};
 ghost use Rattle.rng_model.specs.Classes.{Class};
 ghost use Rattle.rng_model.specs.Patterns as pattern;
 ghost use Rattle.rng_model.specs.Constructors.{after_of, data_of, group_of, interleave_of, one_or_more_of};

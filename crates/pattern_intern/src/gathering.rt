@@ -1,7 +1,7 @@
 // The choice of many patterns: the members of all are gathered, and the choice is made from its greatest member down.
-ghost use Rattle.std.specs.Prelude.{◌≡◌, ℕ, ◌+◌, ◌<◌, length, take, filter, List, IfOk, OnErr, OnOk, IsPermutation, IsSorted};
+ghost use Rattle.std.specs.Prelude.{◌≡◌, ℕ, ◌+◌, ◌<◌, length, filter, List, IfOk, OnErr, OnOk, IsPermutation, IsSorted};
 ghost use Rattle.rng_model.specs.Patterns.{pattern_cmp};
-ghost use Rattle.pattern_intern.specs.Gathered.{AreAllMembers, IsBegun, IsGathered, IsGathering, choice_of_each, is_member};
+ghost use Rattle.pattern_intern.specs.Gathered.{AreAllMembers, IsGathered, IsGathering, choice_of_each, is_member};
 ghost use Rattle.pattern_intern.specs.Members.{AreIn, trees_at};
 ghost use Rattle.pattern_intern.specs.Schemas.{AreRefsBelow};
 ghost use Rattle.pattern_intern.specs.Stored.{Extends, count, tree_at};

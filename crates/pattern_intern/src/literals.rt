@@ -4,7 +4,7 @@ ghost use Rattle.std.specs.List.{AllByRecursion};
 ghost use Rattle.rng_model.specs.Kinds.{Kind as KindValue};
 ghost use Rattle.rng_model.specs.Patterns.{Schema as SchemaValue, value};
 ghost use Rattle.rng_model.specs.Texts.{Text as TextValue};
-ghost use Rattle.rng_model.specs.Universe.{AreLiterals, IsOfKind};
+ghost use Rattle.rng_model.specs.Universe.{IsOfKind};
 ghost use Rattle.pattern_intern.specs.Marks.{IsSearch, content_of, parts_of, with_marks};
 ghost use Rattle.pattern_intern.specs.Schemas.{AreBelow};
 ghost use Rattle.pattern_intern.specs.Stored.{count};

@@ -1,5 +1,5 @@
 // One schema for each rule, what the rules don't forbid, and parts that are shared.
-ghost use Rattle.std.specs.Prelude.{◌≡◌, ℕ, ◌<◌, length, IfOk};
+ghost use Rattle.std.specs.Prelude.{ℕ, ◌<◌, IfOk};
 ghost use Rattle.std.specs.Bool.{OnTrue};
 ghost use Rattle.rng_model.specs.Patterns.{HasNoAfter};
 ghost use Rattle.pattern_intern.specs.Schemas.{AreRefsBelow, AreWithin};

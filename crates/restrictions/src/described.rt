@@ -1,5 +1,5 @@
 // What is known of each pattern of a pool, each from what is known of its parts.
-ghost use Rattle.std.specs.Prelude.{◌≡◌, ◌<◌, IfOk};
+ghost use Rattle.std.specs.Prelude.{◌<◌, IfOk};
 ghost use Rattle.pattern_intern.specs.Stored.{count, tree_at};
 ghost use Rattle.restrictions.specs.Described.{AreDescribed, IsDescribed};
 

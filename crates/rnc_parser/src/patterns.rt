@@ -1,11 +1,11 @@
-ghost use Rattle.std.specs.Prelude.{◌≡◌, ◌<◌, ◌≤◌, false, true, [], ◌∷◌, length, map, OnOk};
+ghost use Rattle.std.specs.Prelude.{◌<◌, ◌≤◌, false, true, [], ◌∷◌, length, map, OnOk};
 ghost use Rattle.grammar_laws.specs.Grammar.{ReadsBare, ReadsPattern, ReadsParticle, ReadsPrimary, ReadsItem, ReadsInner};
 ghost use Rattle.grammar_laws.specs.Trees.{items_of};
 ghost use Rattle.token_laws.specs.Tokens as kw;
 ghost use Rattle.rnc_lexer.specs.Views.{symbol_of};
 ghost use Rattle.syntax_laws.specs.Expecting as part;
 ghost use Rattle.rnc_parser.specs.Reading.{Parsed};
-ghost use Rattle.rnc_parser.specs.Parts.{ReadsOpen, ReadsOperand, ReadsBraced, BehindType, BehindPrimary, BehindParticle, BehindPostfix, BehindConnector, ReadsMore, ReadsOneItem, ReadsNext, ReadsMoreItems, AreInner};
+ghost use Rattle.rnc_parser.specs.Parts.{ReadsOpen, ReadsOperand, ReadsBraced, BehindType, BehindPrimary, BehindParticle, BehindPostfix, BehindConnector, ReadsMore, ReadsOneItem, ReadsNext, ReadsMoreItems};
 ghost use Rattle.schema_tree.specs.Trees.{pattern_of, item_of, type_of};
 
 use crate::annotations::{block, blocks, follow};

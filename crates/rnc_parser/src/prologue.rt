@@ -1,4 +1,4 @@
-ghost use Rattle.std.specs.Prelude.{◌≡◌, ◌<◌, ◌≤◌, [], ◌∷◌, length, map, OnOk};
+ghost use Rattle.std.specs.Prelude.{◌<◌, ◌≤◌, [], ◌∷◌, length, map, OnOk};
 ghost use Rattle.grammar_laws.specs.Grammar.{ReadsDeclaration, ReadsDeclarations};
 ghost use Rattle.token_laws.specs.Tokens as kw;
 ghost use Rattle.syntax_laws.specs.Expecting as part;

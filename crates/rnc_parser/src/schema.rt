@@ -1,5 +1,4 @@
-ghost use Rattle.std.specs.Prelude.{◌≡◌, false, true, [], ◌∷◌, map};
-ghost use Rattle.grammar_laws.specs.Grammar.{Derives};
+ghost use Rattle.std.specs.Prelude.{false, true, [], ◌∷◌};
 ghost use Rattle.syntax_laws.specs.Expecting as part;
 ghost use Rattle.rnc_parser.specs.Reading.{Parsed};
 ghost use Rattle.rnc_parser.specs.Parts.{ReadsBody, BehindName, BehindBlocks, BehindBare, DerivesFile};

@@ -1,5 +1,5 @@
 // The features that aren't taken.
-ghost use Rattle.std.specs.Prelude.{◌≡◌, ◌↔◌, ◌⊎◌, ◌+◌, ◌<◌, ◌≤◌, ◌^◌, ℕ, true, false, map, Some, option_map, IsTrue};
+ghost use Rattle.std.specs.Prelude.{◌≡◌, ◌↔◌, ◌⊎◌, ◌+◌, ◌<◌, ◌≤◌, ◌^◌, true, false, map, Some, option_map, IsTrue};
 ghost use Rattle.schema_tree.specs.Features.{HasFeature, HasReference, InPattern, InPatterns, InItem, InItems, InBody, InType, InParameters, InPassed, InUri, InDeclaration, InDeclarations, InFiles, Is};
 ghost use Rattle.schema_tree.specs.Least.{Wants, feature_rank, feature_order, IsLeast, IsEarlier, IsFirst};
 ghost use Rattle.schema_tree.specs.Files.{full_of, file_of, IsUriWithin, IsWithin, AreWithin, AreFitting};

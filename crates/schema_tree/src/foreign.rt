@@ -1,5 +1,5 @@
 // Types that aren't taken.
-ghost use Rattle.std.specs.Prelude.{◌≡◌, ◌↔◌, map, IsTrue, string_bytes};
+ghost use Rattle.std.specs.Prelude.{◌≡◌, ◌↔◌, map, IsTrue};
 ghost use Rattle.schema_tree.specs.Features as by;
 ghost use Rattle.schema_tree.specs.Features.{IsForeign, binds_foreign, is_built_in, is_xsd};
 ghost use Rattle.schema_tree.specs.Files.{file_of};
