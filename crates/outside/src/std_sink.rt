@@ -20,6 +20,13 @@ impl<W: Write + Drop> StdSink<W> {
         StdSink { writer, faults: 0 }
     }
 
+    /// The writer, with what it still holds back.
+    pub fn into_inner(self) -> W
+        ensures { result ≡ self.writer }
+    {
+        self.writer
+    }
+
     /// Hands on what the writer still holds back. A flush that fails counts a fault.
     pub fn flush(&mut self) -> Result<(), Failed>
         ensures { HasCause self.old.faults self.new.faults result }

@@ -25,22 +25,29 @@ fn words_of<R: Env + AllocGlobal>(rt: &R) -> Result<Vec<String>, AllocError> {
     }
 }
 
-/// The status of a run whose steps are counted from 0. What standard output still holds back is handed over at the end;
-/// where that fails, it is a write fault.
-fn status_of<L: Ledger, R: Files + Clone + Drop, O: Write + Drop, E: Write + Drop>(
+/// How a run ends whose steps are counted from 0.
+fn ending<L: Ledger, R: Files + Clone + Drop, O: Write + Drop, E: Write + Drop>(
     alloc: Global,
     blank: Blank,
     words: &Vec<String>,
     shelf: &mut FileShelf<R>,
     out: &mut StdSink<O>,
     err: &mut StdSink<E>,
-) -> u8
+) -> Outcome
     requires name { blank.name ≡ L.name }
     requires parts { blank.parts ≡ L.parts }
     requires some { 0 < L.parts }
 {
     let mut steps: Steps<L> = Steps::new(blank);
-    let outcome = run(alloc, words, shelf, out, err, &mut steps);
+    run(alloc, words, shelf, out, err, &mut steps)
+}
+
+/// Hands over what standard output still holds back. Where that fails, it is a write fault.
+fn finish<O: Write + Drop, E: Write + Drop>(
+    outcome: Outcome,
+    out: &mut StdSink<O>,
+    err: &mut StdSink<E>,
+) -> u8 {
     if out.flush().is_ok() {
         return outcome.status();
     }
@@ -61,13 +68,12 @@ fn main(rt: HostRuntime) -> ExitCode {
     let mut out = StdSink::new(buffered);
     let mut err = StdSink::new(rt.stderr());
     let mut shelf = FileShelf::new(rt);
-    let status = status_of::<Brand, _, _, _>(
-        alloc,
-        Blank::new(1),
-        &words,
-        &mut shelf,
-        &mut out,
-        &mut err,
-    );
-    ExitCode::from(status)
+    let blank = Blank::new(1);
+    let outcome = ending::<Brand, _, _, _>(alloc, blank, &words, &mut shelf, &mut out, &mut err);
+    if matches!(outcome, Outcome::WriteFault) {
+        // What the buffer holds is let go and not handed over: it would stand behind what failed.
+        let (_stdout, _held) = out.into_inner().into_parts();
+        return ExitCode::from(outcome.status());
+    }
+    ExitCode::from(finish(outcome, &mut out, &mut err))
 }
