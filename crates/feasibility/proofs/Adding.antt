@@ -1,25 +1,29 @@
 -- What is known of states stays so as states are found, and more is added.
-use Rattle.std.proofs.Common.{◌≡◌, ℕ, ◌<◌, ◌≤◌, ◌⊎◌, inl, inr, Option, Some, None, List, [], ◌∷◌, ◌++◌, length, length-append, slice_get, refl, sym, ◌∙◌, ap, subst, arith}
-use Rattle.std.specs.Prelude.{Result, Ok, Err, OnErr}
+use Rattle.std.proofs.Common.{◌≡◌, ℕ, ◌<◌, ◌≤◌, ◌⊎◌, inl, inr, Option, Some, None, List, [], ◌∷◌, ◌++◌, length, length-append, slice_get, refl, sym, ◌∙◌, ap, subst, arith, true≢false}
+use Rattle.std.specs.Prelude.{Result, Ok, Err, IsErr, OnErr, OnOk}
 use Rattle.std.proofs.lemmas.List.{append_assoc, append-nil}
 use Rattle.std.proofs.lemmas.Option.{slice_get_within}
 use Rattle.rng_model.specs.Patterns.{Schema}
 use Rattle.rng_model.specs.Universe.{Lists}
 use Rattle.rng_model.specs.States.{State}
-use Rattle.feasibility.specs.declared.arc.Arc.{Arc}
+use Rattle.transitions.specs.declared.arc.Arc.{Arc}
+use Rattle.transitions.specs.declared.state_id.StateId.{StateId}
+use Rattle.transitions.specs.Arcs.{IsFree, IsRow, state_in}
+use Rattle.transitions.proofs.Lists.{slice_get-push}
 use Rattle.feasibility.specs.declared.explorer.Explorer.{Explorer}
-use Rattle.feasibility.specs.declared.state_id.StateId.{StateId}
-use Rattle.feasibility.specs.Arcs.{IsFree, IsRow, state_in}
 use Rattle.feasibility.specs.Exploring.{Finds, IsExploring, IsFreeAt, IsReachedBefore, at, found, names, schema}
 use Rattle.feasibility.specs.Growing.{AreFrees, AreRowsOf, AddsFrees, AddsRows, Begins}
 use Rattle.feasibility.proofs.Finding.{finds_names}
 use Rattle.feasibility.proofs.Moving.{finds_on}
-use Rattle.feasibility.proofs.Rowing.{slice_get-push}
 
 -- after an error
 pub on_err : {T E P : Type 0} (r : Result T E) → P → OnErr r P
 on_err (Ok x) p = tt
 on_err (Err e) p = p
+
+pub ok_from_err : {T E : Type 0} (r : Result T E) (P : Type 0) → IsErr r → OnOk r P
+ok_from_err (Ok x) P e = absurd (true≢false (sym e))
+ok_from_err (Err x) P e = tt
 
 -- beginnings
 pub begins_itself : {X : Type 0} (xs : List X) → Begins xs xs

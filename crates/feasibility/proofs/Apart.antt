@@ -12,8 +12,8 @@ use Rattle.derivatives.specs.declared.states.State.{State as Key}
 use Rattle.derivatives.specs.contracts.states.PlacePartialEq.TheImpl as place_eq
 use Rattle.derivatives.specs.contracts.states.StatePartialEq.TheImpl as key_eq
 use Rattle.derivatives.specs.Views.{place_of, state_of}
+use Rattle.transitions.specs.Arcs.{state_in}
 use Rattle.feasibility.specs.declared.explorer.Explorer.{Explorer}
-use Rattle.feasibility.specs.Arcs.{state_in}
 use Rattle.feasibility.specs.Exploring.{IsExploring, IsFound, AreWithin, states_of, found, pool, schema, names}
 
 both_true : (a b : Bool) → (a && b) ≡ true → (a ≡ true) × (b ≡ true)

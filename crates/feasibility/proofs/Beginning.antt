@@ -14,8 +14,9 @@ use Rattle.table_laws.specs.Premises.{AreListable}
 use Rattle.table_laws.specs.Reaching.{GoesInto, afters, free_code, start_state}
 use Rattle.table_laws.proofs.Free.{free_falls, one_free}
 use Rattle.table_laws.proofs.Levels.{reach_zero}
+use Rattle.transitions.specs.declared.state_id.StateId.{StateId}
+use Rattle.transitions.proofs.Lists.{slice_get-push}
 use Rattle.feasibility.specs.declared.explorer.Explorer.{Explorer}
-use Rattle.feasibility.specs.declared.state_id.StateId.{StateId}
 use Rattle.pattern_intern.specs.Schemas.{Numbered}
 use Rattle.text_atoms.specs.declared.origin.Origin.{Origin}
 use Rattle.text_atoms.specs.Origins.{texts_of}
@@ -25,7 +26,6 @@ use Rattle.derivatives.specs.declared.states.State.{State as Key}
 use Rattle.feasibility.specs.Exploring.{AreWithin, IsExploring, IsFreeAt, at, found, groups_of, names, pool, schema}
 use Rattle.feasibility.specs.Grown.{IsGrown, IsLevel, IsStarted}
 use Rattle.feasibility.proofs.Apart.{length_states}
-use Rattle.feasibility.proofs.Rowing.{slice_get-push}
 use Rattle.feasibility.proofs.Sizes.{holds_at, number_of}
 
 -- schemas' literals tell the same texts apart

@@ -6,9 +6,9 @@ use Rattle.rng_model.specs.States.{State, AreDistinct, Reach, ReachesMore}
 use Rattle.table_laws.specs.Premises.{AreListable}
 use Rattle.table_laws.specs.Reaching.{start_state}
 use Rattle.table_laws.proofs.Counts.{more_grows}
-use Rattle.feasibility.specs.declared.arc.Arc.{Arc}
+use Rattle.transitions.specs.declared.arc.Arc.{Arc}
+use Rattle.transitions.specs.declared.state_id.StateId.{StateId}
 use Rattle.feasibility.specs.declared.explorer.Explorer.{Explorer}
-use Rattle.feasibility.specs.declared.state_id.StateId.{StateId}
 use Rattle.feasibility.specs.Exploring.{Finds, at, found, groups_of, names, pool, schema, states_of}
 use Rattle.feasibility.specs.Grown.{IsGrown, IsLevel, IsStarted, row_total}
 use Rattle.feasibility.specs.Growing.{AddsFrees, AddsRows, Begins, GoesOn, Parts, at_level, cost, parts}

@@ -6,14 +6,15 @@ use Rattle.rng_model.specs.Patterns.{Pattern, Schema, not_allowed}
 use Rattle.rng_model.specs.States.{State, Place, Tag, Fresh, AfterText, AfterElement, Reach, step}
 use Rattle.rng_model.specs.Universe.{Lists}
 use Rattle.table_laws.specs.Reaching.{free_code, weight}
-use Rattle.feasibility.specs.declared.arc.Arc.{Arc}
+use Rattle.transitions.specs.declared.arc.Arc.{Arc}
+use Rattle.transitions.specs.declared.state_id.StateId.{StateId}
+use Rattle.transitions.specs.Arcs.{IsRow}
+use Rattle.transitions.specs.Searches.{GoesNowhere, GoesTo, IsInOrder}
+use Rattle.transitions.proofs.Lists.{get_of}
 use Rattle.feasibility.specs.declared.explorer.Explorer.{Explorer}
-use Rattle.feasibility.specs.declared.state_id.StateId.{StateId}
-use Rattle.feasibility.specs.Arcs.{IsRow}
 use Rattle.feasibility.specs.Exploring.{IsAfter, IsFreeAt, at, found, names, schema}
 use Rattle.feasibility.specs.Grown.{IsGrown}
-use Rattle.feasibility.specs.Taking.{GoesNowhere, GoesTo, IsDeadEnd, IsInOrder, IsKnownFor}
-use Rattle.feasibility.proofs.Marking.{get_of}
+use Rattle.feasibility.specs.Taking.{IsDeadEnd, IsKnownFor}
 
 pub is_dead : (p : Pattern) → (p ≢ not_allowed → ⊥) → p ≡ not_allowed
 is_dead not_allowed h = refl

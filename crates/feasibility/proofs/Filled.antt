@@ -2,7 +2,7 @@
 use Rattle.std.proofs.Common.{◌≡◌, ℕ, ◌+◌, ◌<◌, ◌≤◌, Option, List, length, sym, ap, subst, arith}
 use Rattle.rng_model.specs.States.{State, IsAllowed}
 use Rattle.pattern_intern.specs.declared.id.PatternId.{PatternId}
-use Rattle.feasibility.specs.declared.arc.Arc.{Arc}
+use Rattle.transitions.specs.declared.arc.Arc.{Arc}
 use Rattle.feasibility.specs.declared.explorer.Explorer.{Explorer}
 use Rattle.feasibility.specs.declared.family.Family.{Family}
 use Rattle.feasibility.specs.Costs.{cost_left}

@@ -11,8 +11,8 @@ use Rattle.rng_model.specs.States.{State}
 use Rattle.pattern_intern.specs.Stored.{Stored, Extends}
 use Rattle.derivatives.specs.declared.states.State.{State as Key}
 use Rattle.derivatives.specs.Views.{Machine, place_of}
+use Rattle.transitions.specs.Arcs.{state_in}
 use Rattle.feasibility.specs.declared.explorer.Explorer.{Explorer}
-use Rattle.feasibility.specs.Arcs.{state_in}
 use Rattle.feasibility.specs.Exploring.{IsExploring, Finds, AreWithin, states_of, found, pool, schema, names, groups_of}
 
 pub states_kept : (s t : Stored) → Extends s t → (keys : List Key) → AreWithin s keys → states_of t keys ≡ states_of s keys

@@ -7,8 +7,8 @@ use Rattle.table_laws.specs.Reaching.{start_state}
 use Rattle.pattern_intern.specs.Stored.{Stored, tree_at}
 use Rattle.derivatives.specs.declared.states.State.{State as Key}
 use Rattle.derivatives.specs.Views.{Machine, state_of}
+use Rattle.transitions.specs.Arcs.{state_in}
 use Rattle.feasibility.specs.declared.explorer.Explorer.{Explorer}
-use Rattle.feasibility.specs.Arcs.{state_in}
 use Rattle.feasibility.specs.Exploring.{at, found, pool, schema, states_of}
 use Rattle.feasibility.specs.Grown.{IsStarted}
 use Rattle.feasibility.proofs.Apart.{length_states}

@@ -2,9 +2,9 @@
 use Rattle.std.proofs.Common.{◌≡◌, ℕ, zero, suc, ◌+◌, ◌*◌, ◌-◌, ◌<◌, ◌≤◌, inl, inr, List, length, arith}
 use Rattle.rng_model.specs.Patterns.{not_allowed}
 use Rattle.table_laws.specs.Reaching.{start_state}
-use Rattle.feasibility.specs.declared.arc.Arc.{Arc}
+use Rattle.transitions.specs.declared.arc.Arc.{Arc}
+use Rattle.transitions.specs.declared.state_id.StateId.{StateId}
 use Rattle.feasibility.specs.declared.explorer.Explorer.{Explorer}
-use Rattle.feasibility.specs.declared.state_id.StateId.{StateId}
 use Rattle.std.specs.Prelude.{Option}
 use Rattle.feasibility.specs.Exploring.{at, found, groups_of, names, schema}
 use Rattle.feasibility.specs.Grown.{IsGrown, IsStarted, row_total, spent_on}

@@ -10,13 +10,13 @@ use Rattle.rng_model.specs.States.{State, IsAllowed, Place, step}
 use Rattle.table_laws.proofs.AlikeLaw.{alike_reached}
 use Rattle.pattern_intern.specs.Stored.{Stored, Extends}
 use Rattle.pattern_intern.specs.declared.id.PatternId.{PatternId}
+use Rattle.transitions.proofs.Lists.{slice_get-push}
 use Rattle.feasibility.specs.declared.explorer.Explorer.{Explorer}
 use Rattle.feasibility.specs.declared.family.Family.{Family}
 use Rattle.feasibility.specs.declared.family.Family.TheVariants.{Texts, Attribute, Openings}
 use Rattle.feasibility.specs.Exploring.{Finds, IsExploring, IsKnown, IsPattern, at, found, groups_in, groups_of, names, pattern_at, pool, schema}
 use Rattle.feasibility.specs.Families.{HasName, family_code, family_groups, family_length}
 use Rattle.feasibility.proofs.Finding.{finds_names}
-use Rattle.feasibility.proofs.Rowing.{slice_get-push}
 
 pub some_at : {X : Type 0} (xs : List X) (i : ℕ) → i < length xs → (x : X) × (slice_get xs i ≡ Some x)
 some_at [] i l = absurd (omega arith)

@@ -11,14 +11,14 @@ use Rattle.skeleton.specs.Views.{code_of}
 use Rattle.pattern_intern.specs.declared.id.PatternId.{PatternId}
 use Rattle.derivatives.specs.declared.states.Place.{Place}
 use Rattle.derivatives.specs.Views.{place_of, state_of}
-use Rattle.feasibility.specs.declared.arc.Arc.{Arc}
+use Rattle.transitions.specs.declared.arc.Arc.{Arc}
+use Rattle.transitions.specs.declared.state_id.StateId.{StateId}
+use Rattle.transitions.specs.Runs.{IsAdded}
 use Rattle.feasibility.specs.declared.explorer.Explorer.{Explorer}
 use Rattle.feasibility.specs.declared.family.Family.{Family}
-use Rattle.feasibility.specs.declared.state_id.StateId.{StateId}
 use Rattle.feasibility.specs.Exploring.{IsAfter, IsFound, IsLeading, IsReachedBefore, IsRowAt, Finds, found, at, pool, schema, names}
 use Rattle.feasibility.specs.Families.{family_code}
 use Rattle.feasibility.proofs.Finding.{finds_names}
-use Rattle.feasibility.specs.Runs.{IsAdded}
 use Rattle.feasibility.proofs.Merging.{row_grows}
 use Rattle.feasibility.proofs.Rowing.{row_stays}
 

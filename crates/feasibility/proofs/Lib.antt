@@ -1,11 +1,9 @@
 pub mod Adding
 pub mod Apart
 pub mod Beginning
-pub mod Columns
 pub mod Costing
 pub mod Cutting
 pub mod Departing
-pub mod Ending
 pub mod Filled
 pub mod Finding
 pub mod Firsts
@@ -17,12 +15,8 @@ pub mod Marking
 pub mod Merging
 pub mod Moving
 pub mod Naming
-pub mod Ordered
-pub mod Parts
 pub mod Passing
 pub mod Rowing
-pub mod Searching
-pub mod Settling
 pub mod Sharing
 pub mod Shortness
 pub mod Sizes

@@ -8,13 +8,13 @@ use Rattle.rng_model.specs.Universe.{Lists}
 use Rattle.rng_model.specs.States.{State}
 use Rattle.table_laws.specs.Reaching.{Leads}
 use Rattle.skeleton.specs.Views.{code_of}
-use Rattle.feasibility.specs.declared.arc.Arc.{Arc}
+use Rattle.transitions.specs.declared.arc.Arc.{Arc}
+use Rattle.transitions.specs.declared.state_id.StateId.{StateId}
+use Rattle.transitions.specs.Arcs.{Covers, IsFrom, IsLess, IsRowTo, LeadsTo}
+use Rattle.transitions.specs.Runs.{IsAdded, IsNext}
 use Rattle.feasibility.specs.declared.family.Family.{Family}
 use Rattle.feasibility.specs.declared.family.Family.TheVariants.{Texts, Attribute, Openings}
-use Rattle.feasibility.specs.declared.state_id.StateId.{StateId}
-use Rattle.feasibility.specs.Arcs.{Covers, IsFrom, IsLess, IsRowTo, LeadsTo}
 use Rattle.feasibility.specs.Families.{family_code}
-use Rattle.feasibility.specs.Runs.{IsAdded, IsNext}
 use Rattle.feasibility.proofs.Rowing.{less_next, less_split, next_above, row_adds}
 
 -- what stands in a list with one changed

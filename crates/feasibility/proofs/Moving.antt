@@ -5,7 +5,7 @@ use Rattle.rng_model.specs.States.{State, IsAllowed, ReachesMore}
 use Rattle.pattern_intern.specs.Stored.{Stored, Extends}
 use Rattle.pattern_intern.specs.declared.id.PatternId.{PatternId}
 use Rattle.derivatives.specs.declared.states.State.{State as Key}
-use Rattle.feasibility.specs.declared.arc.Arc.{Arc}
+use Rattle.transitions.specs.declared.arc.Arc.{Arc}
 use Rattle.feasibility.specs.declared.explorer.Explorer.{Explorer}
 use Rattle.feasibility.specs.declared.family.Family.{Family}
 use Rattle.feasibility.specs.declared.fault.Refusal.{Refusal}

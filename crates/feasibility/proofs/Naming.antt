@@ -8,7 +8,7 @@ use Rattle.rng_model.specs.Codes as code
 use Rattle.rng_model.specs.States.{Place, State, IsAllowed}
 use Rattle.rng_model.specs.Alike.{Groups, group_count}
 use Rattle.pattern_intern.specs.declared.id.PatternId.{PatternId}
-use Rattle.feasibility.specs.declared.arc.Arc.{Arc}
+use Rattle.transitions.specs.declared.arc.Arc.{Arc}
 use Rattle.feasibility.specs.declared.explorer.Explorer.{Explorer}
 use Rattle.feasibility.specs.declared.family.Family.TheVariants.{Attribute}
 use Rattle.feasibility.specs.Costs.{names_cost}

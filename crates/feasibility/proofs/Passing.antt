@@ -13,8 +13,8 @@ use Rattle.table_laws.specs.Reaching.{Leads, weight}
 use Rattle.table_laws.specs.Remainders.{takes_name}
 use Rattle.table_laws.proofs.AlikeLaw.{refused_is}
 use Rattle.table_laws.proofs.OpeningRows.{name_untaken}
-use Rattle.feasibility.specs.declared.arc.Arc.{Arc}
-use Rattle.feasibility.specs.Arcs.{IsLess, IsRow, IsRowTo}
+use Rattle.transitions.specs.declared.arc.Arc.{Arc}
+use Rattle.transitions.specs.Arcs.{IsLess, IsRow, IsRowTo}
 
 where_nothing : (b : Bool) → where_true b not_allowed ≡ not_allowed
 where_nothing true = refl

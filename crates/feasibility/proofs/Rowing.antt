@@ -8,23 +8,14 @@ use Rattle.rng_model.specs.Universe.{Lists}
 use Rattle.rng_model.specs.States.{State, step}
 use Rattle.table_laws.specs.Reaching.{Leads}
 use Rattle.skeleton.specs.Views.{code_of}
-use Rattle.feasibility.specs.declared.arc.Arc.{Arc}
+use Rattle.transitions.specs.declared.arc.Arc.{Arc}
+use Rattle.transitions.specs.Arcs.{Covers, IsFrom, IsLess, IsRowTo, LeadsTo, state_in}
+use Rattle.transitions.proofs.Lists.{slice_get-push}
 use Rattle.feasibility.specs.declared.family.Family.{Family}
 use Rattle.feasibility.specs.declared.family.Family.TheVariants.{Texts, Attribute, Openings}
-use Rattle.feasibility.specs.Arcs.{Covers, IsFrom, IsLess, IsRowTo, LeadsTo, state_in}
 use Rattle.feasibility.specs.Families.{family_code}
 
 -- what stands in a list with one more
-pub slice_get-push : {X : Type 0} (xs : List X) (x y : X) (k : ℕ) → slice_get (xs ++ x ∷ []) k ≡ Some y → (slice_get xs k ≡ Some y) ⊎ ((k ≡ length xs) × (x ≡ y))
-slice_get-push [] x y zero h = inr (refl, cc)
-slice_get-push [] x y (suc k) h = absurd (cc)
-slice_get-push (z ∷ xs) x y zero h = inl h
-slice_get-push (z ∷ xs) x y (suc k) h = go (slice_get-push xs x y k h)
-  where
-    go : (slice_get xs k ≡ Some y) ⊎ ((k ≡ length xs) × (x ≡ y)) → (slice_get xs k ≡ Some y) ⊎ ((suc k ≡ suc (length xs)) × (x ≡ y))
-    go (inl e) = inl e
-    go (inr (e, f)) = inr (ap suc e, f)
-
 slice_get-old : {X : Type 0} (xs : List X) (x y : X) (k : ℕ) → slice_get xs k ≡ Some y → slice_get (xs ++ x ∷ []) k ≡ Some y
 slice_get-old [] x y k h = absurd (cc)
 slice_get-old (z ∷ xs) x y zero h = h

@@ -14,11 +14,13 @@ use Rattle.rng_model.specs.States.{State}
 use Rattle.table_laws.specs.Reaching.{Leads, weight}
 use Rattle.table_laws.proofs.AlikeLaw.{white_is}
 use Rattle.skeleton.specs.Views.{code_of}
-use Rattle.feasibility.specs.declared.arc.Arc.{Arc}
+use Rattle.transitions.specs.declared.arc.Arc.{Arc}
+use Rattle.transitions.specs.Arcs.{IsLess, IsRow}
+use Rattle.transitions.proofs.Lists.{get_of}
+use Rattle.transitions.proofs.Finishing.{heavy}
 use Rattle.feasibility.specs.declared.explorer.Explorer.{Explorer}
-use Rattle.feasibility.specs.Arcs.{IsLess, IsRow}
 use Rattle.feasibility.specs.Exploring.{IsExploring, at, found, names, schema}
-use Rattle.feasibility.proofs.Marking.{get_of, heavy, leads_alive}
+use Rattle.feasibility.proofs.Marking.{leads_alive}
 
 -- values that are below a bound and ascend are at most so many
 module _ {X : Type 0} (f : X → ℕ) (n : ℕ) (xs : List X) (below : (i : ℕ) (x : X) → slice_get xs i ≡ Some x → f x < n)

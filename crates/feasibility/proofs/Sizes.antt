@@ -9,15 +9,15 @@ use Rattle.table_laws.specs.Premises.{AreListable}
 use Rattle.table_laws.specs.Reaching.{GoesInto, start_state}
 use Rattle.table_laws.proofs.Free.{one_free}
 use Rattle.table_laws.proofs.Levels.{reach_level, reach_more}
-use Rattle.feasibility.specs.declared.arc.Arc.{Arc}
+use Rattle.transitions.specs.declared.arc.Arc.{Arc}
+use Rattle.transitions.specs.declared.state_id.StateId.{StateId}
+use Rattle.transitions.specs.Arcs.{IsFree, IsRow, state_in}
+use Rattle.transitions.proofs.Lists.{slice_get-push}
 use Rattle.feasibility.specs.declared.explorer.Explorer.{Explorer}
-use Rattle.feasibility.specs.declared.state_id.StateId.{StateId}
-use Rattle.feasibility.specs.Arcs.{IsFree, IsRow, state_in}
 use Rattle.feasibility.specs.Exploring.{Finds, IsExploring, IsReachedBefore, at, found, names, schema}
 use Rattle.feasibility.specs.Grown.{IsGrown, IsLevel, IsStarted}
 use Rattle.feasibility.specs.Growing.{AreFrees, AreRowsOf, at_level}
 use Rattle.feasibility.proofs.Finding.{finds_names}
-use Rattle.feasibility.proofs.Rowing.{slice_get-push}
 
 pub some_at : {X : Type 0} (xs : List X) (i : ℕ) → i < length xs → (x : X) × (slice_get xs i ≡ Some x)
 some_at [] i l = absurd (omega arith)

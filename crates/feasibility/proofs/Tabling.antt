@@ -8,14 +8,14 @@ use Rattle.table_laws.proofs.Counts.{more_grows, no_more}
 use Rattle.pattern_intern.specs.Stored.{Stored, Extends}
 use Rattle.text_atoms.specs.declared.origin.Origin.{Origin}
 use Rattle.name_universe.specs.Tables.{NameTables}
-use Rattle.feasibility.specs.declared.arc.Arc.{Arc}
+use Rattle.transitions.specs.declared.arc.Arc.{Arc}
+use Rattle.transitions.specs.declared.state_id.StateId.{StateId}
 use Rattle.feasibility.specs.declared.explorer.Explorer.{Explorer}
 use Rattle.feasibility.specs.declared.fault.Refusal.{Refusal}
 use Rattle.feasibility.specs.declared.fault.Refusal.TheVariants as refusal
 use Rattle.feasibility.specs.declared.fault.Refusal.TheVariants.{Full}
 use Rattle.feasibility.specs.Faults.{fault_of}
 use Rattle.feasibility.specs.Limits.{IsOverLimit}
-use Rattle.feasibility.specs.declared.state_id.StateId.{StateId}
 use Rattle.feasibility.specs.declared.states.Extent.{Extent}
 use Rattle.feasibility.specs.declared.states.States.{States}
 use Rattle.std.specs.Prelude.{Option, Result, Ok, Err, IfOk}

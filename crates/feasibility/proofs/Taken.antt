@@ -11,16 +11,19 @@ use Rattle.table_laws.proofs.Free.{one_free}
 use Rattle.table_laws.proofs.Levels.{reach_more, reach_step}
 use Rattle.table_laws.proofs.Marks.{free_weight}
 use Rattle.skeleton.specs.Views.{code_of}
-use Rattle.feasibility.specs.declared.arc.Arc.{Arc}
+use Rattle.transitions.specs.declared.arc.Arc.{Arc}
+use Rattle.transitions.specs.declared.state_id.StateId.{StateId}
+use Rattle.transitions.specs.Bounds.{IsPast}
+use Rattle.transitions.specs.Searches.{GoesToMarked, IsLeastMarked, NoneMarked}
+use Rattle.transitions.proofs.Lists.{get_here, get_of}
+use Rattle.transitions.proofs.Finishing.{heavy}
+use Rattle.transitions.proofs.Ordered.{less_isnt, turned}
 use Rattle.feasibility.specs.declared.explorer.Explorer.{Explorer}
-use Rattle.feasibility.specs.declared.state_id.StateId.{StateId}
 use Rattle.feasibility.specs.Exploring.{IsAfter, IsExploring, IsFreeAt, at, found, names, schema}
-use Rattle.feasibility.specs.Following.{IsPast}
 use Rattle.feasibility.specs.Marking.{AreMarked, Finishes, IsFilled, IsReady, IsReadyNode}
-use Rattle.feasibility.specs.Taking.{CanGoOn, GoesToMarked, IsFreeKnown, IsLeastMarked, IsLeastTaken, NoneMarked, NoneTaken}
+use Rattle.feasibility.specs.Taking.{CanGoOn, IsFreeKnown, IsLeastTaken, NoneTaken}
 use Rattle.feasibility.proofs.Departing.{led_to}
-use Rattle.feasibility.proofs.Marking.{get_here, get_of, heavy, leads_alive, marked_in, ready_at}
-use Rattle.feasibility.proofs.Ordered.{less_isnt, turned}
+use Rattle.feasibility.proofs.Marking.{leads_alive, marked_in, ready_at}
 
 -- no code is less than itself
 not_less : (c : Code) → code_cmp c c ≡ Less → ⊥

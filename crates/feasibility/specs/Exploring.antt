@@ -11,14 +11,15 @@ use Rattle.pattern_intern.specs.Stored.{Stored, Extends, count, tree_at}
 use Rattle.pattern_intern.specs.declared.id.PatternId.{PatternId}
 use Rattle.derivatives.specs.declared.states.State.{State as Key}
 use Rattle.derivatives.specs.Views.{lists, state_of}
+use Rattle.transitions.specs.declared.state_id.StateId.{StateId}
+use Rattle.transitions.specs.declared.arc.Arc.{Arc}
+use Rattle.transitions.specs.Arcs.{IsFree, IsRow, IsRowTo, LeadsTo, state_in}
+use Rattle.transitions.specs.Automata.{Automaton}
 use Rattle.feasibility.specs.declared.explorer.Explorer.{Explorer}
 use Rattle.feasibility.specs.declared.fault.Refusal.{Refusal}
 use Rattle.feasibility.specs.declared.fault.Refusal.TheVariants.{Full}
 use Rattle.feasibility.specs.declared.family.Family.{Family}
 use Rattle.feasibility.specs.declared.family.Family.TheVariants.{Attribute}
-use Rattle.feasibility.specs.declared.state_id.StateId.{StateId}
-use Rattle.feasibility.specs.declared.arc.Arc.{Arc}
-use Rattle.feasibility.specs.Arcs.{IsFree, IsRow, IsRowTo, LeadsTo, state_in}
 use Rattle.feasibility.specs.Families.{family_code, family_groups}
 
 abbrev pub pool : Explorer → Stored
@@ -44,6 +45,10 @@ found e = states_of (pool e) e.states.keys
 -- the state of a number
 abbrev pub at : Explorer → ℕ → State
 at e id = state_in (found e) id
+
+-- the states found so far, as rows and marks speak of them
+abbrev pub automaton : Explorer → Automaton
+automaton e = record { schema = schema e; lists = names e; states = found e }
 
 -- the patterns of the states stand in the pool
 abbrev pub AreWithin : Stored → List Key → Type 0

@@ -1,9 +1,10 @@
 -- What a table tells of the states that follow: this project's own.
-use Rattle.std.specs.Prelude.{◌≡◌, ℕ, ◌+◌, ◌<◌, ◌≤◌, ⊤, Option, Some, None, length}
+use Rattle.std.specs.Prelude.{◌≡◌, ℕ, ◌+◌, ◌<◌, ◌≤◌, Option, length}
 use Rattle.std.specs.declared.cmp.Ordering.TheVariants.{Less}
 use Rattle.rng_model.specs.Codes.{Code, code_cmp}
 use Rattle.rng_model.specs.States.{step, Reach}
 use Rattle.table_laws.specs.Finishing.{CanTake}
+use Rattle.transitions.specs.Bounds.{IsPast}
 use Rattle.feasibility.specs.Tables.{Table, lists, state_of}
 
 -- the table holds the number
@@ -13,11 +14,6 @@ IsHeld t id = id < length t.states
 -- the table has grown so far that it tells what follows the state with so many nodes more
 abbrev pub IsGrownFor : Table → ℕ → ℕ → Type 0
 IsGrownFor t id more = (k : ℕ) × Reach t.schema (lists t) k (state_of t id) × (k + more ≤ t.grown)
-
--- the code is greater than the bound, if there is one
-abbrev pub IsPast : Option Code → Code → Type 0
-IsPast None c = ⊤
-IsPast (Some b) c = code_cmp b c ≡ Less
 
 -- the state can go on with the code so that it can finish with exactly so many nodes in all
 abbrev pub Takes : Table → ℕ → ℕ → Code → Type 0

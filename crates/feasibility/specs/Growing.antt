@@ -3,12 +3,12 @@ use Rattle.std.specs.Prelude.{◌≡◌, ℕ, ◌+◌, ◌*◌, ◌≤◌, List,
 use Rattle.rng_model.specs.Universe.{Lists}
 use Rattle.rng_model.specs.Alike.{Groups}
 use Rattle.table_laws.specs.Premises.{AreListable}
-use Rattle.feasibility.specs.declared.arc.Arc.{Arc}
+use Rattle.transitions.specs.declared.arc.Arc.{Arc}
+use Rattle.transitions.specs.declared.state_id.StateId.{StateId}
+use Rattle.transitions.specs.Arcs.{IsRow}
 use Rattle.feasibility.specs.declared.explorer.Explorer.{Explorer}
-use Rattle.feasibility.specs.declared.state_id.StateId.{StateId}
 use Rattle.feasibility.specs.declared.states.Extent.{Extent}
 use Rattle.feasibility.specs.declared.states.States.{States}
-use Rattle.feasibility.specs.Arcs.{IsRow}
 use Rattle.feasibility.specs.Exploring.{Finds, IsExploring, IsFreeAt, at, found, groups_of, names, pool, schema}
 use Rattle.feasibility.specs.Grown.{IsGrown, row_total}
 

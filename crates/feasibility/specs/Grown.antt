@@ -6,10 +6,10 @@ use Rattle.rng_model.specs.Alike.{Groups, group_count, inked_count}
 use Rattle.rng_model.specs.States.{State, Reach, AreDistinct}
 use Rattle.table_laws.specs.Premises.{AreListable}
 use Rattle.table_laws.specs.Reaching.{start_state}
-use Rattle.feasibility.specs.declared.arc.Arc.{Arc}
+use Rattle.transitions.specs.declared.arc.Arc.{Arc}
+use Rattle.transitions.specs.declared.state_id.StateId.{StateId}
+use Rattle.transitions.specs.Arcs.{IsFree, IsRow}
 use Rattle.feasibility.specs.declared.explorer.Explorer.{Explorer}
-use Rattle.feasibility.specs.declared.state_id.StateId.{StateId}
-use Rattle.feasibility.specs.Arcs.{IsFree, IsRow}
 use Rattle.feasibility.specs.Exploring.{IsExploring, at, found, names, schema}
 
 -- the most derivatives that a row takes: one for each group of alike codes with a node

@@ -1,6 +1,4 @@
 pub mod Alikes
-pub mod Arcs
-pub mod Bits
 pub mod Costs
 pub mod Exploring
 pub mod Families
@@ -10,7 +8,6 @@ pub mod Growing
 pub mod Grown
 pub mod Limits
 pub mod Marking
-pub mod RowLists
-pub mod Runs
 pub mod Tables
 pub mod Taking
+pub use Rattle.transitions.specs.Bounds

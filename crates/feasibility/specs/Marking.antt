@@ -1,100 +1,55 @@
--- Which states can finish, and with how many nodes.
-use Rattle.std.specs.Prelude.{◌≡◌, ℕ, ◌+◌, ◌<◌, ◌≤◌, ◌↔◌, ◌⊎◌, Bool, true, false, IsTrue, List, Option, Some, length, slice_get}
-use Rattle.rng_model.specs.Matching.{nullable}
-use Rattle.table_laws.specs.Finishing.{Finish, MarkedNode}
-use Rattle.feasibility.specs.declared.arc.Arc.{Arc}
-use Rattle.feasibility.specs.declared.block.Block.{Block}
+-- Which states of a table can finish, and with how many nodes.
+use Rattle.std.specs.Prelude.{◌≡◌, ℕ, ◌+◌, ◌<◌, ◌≤◌, Bool, List, Option, Some, length, slice_get}
+use Rattle.transitions.specs.declared.arc.Arc.{Arc}
+use Rattle.transitions.specs.declared.block.Block.{Block}
+use Rattle.transitions.specs.declared.state_id.StateId.{StateId}
+use Rattle.transitions.specs.Marked as marked
+use Rattle.transitions.specs.Marked.{HasMarks}
 use Rattle.feasibility.specs.declared.explorer.Explorer.{Explorer}
-use Rattle.feasibility.specs.declared.state_id.StateId.{StateId}
 use Rattle.feasibility.specs.declared.states.States.{States}
-use Rattle.feasibility.specs.Arcs.{IsFree, IsRow}
 use Rattle.feasibility.specs.Grown.{IsGrown}
-use Rattle.feasibility.specs.Exploring.{at, found, names, schema}
+use Rattle.feasibility.specs.Exploring.{automaton}
 
 -- the state of the number can finish with so many nodes
 abbrev pub Finishes : Explorer → ℕ → ℕ → Type 0
-Finishes e rest id = Finish (schema e) (names e) rest (at e id)
-
--- the entries of a list say which states can finish with so many nodes
-pub record AreMarks (e : Explorer) (rest : ℕ) (list : List Bool) : Type 0 where
-  pub few : length list ≤ length (found e)
-  pub each : (id : ℕ) (mark : Bool) → slice_get list id ≡ Some mark → IsTrue mark ↔ Finishes e rest id
+Finishes e rest id = marked.Finishes (automaton e) rest id
 
 -- the state accepts and no node is left, or a code with a node leads to one that can finish with the nodes that are left then
 abbrev pub FinishesFirst : Explorer → ℕ → ℕ → Type 0
-FinishesFirst e rest id =
-    ((rest ≡ 0) × IsTrue (nullable (at e id).pattern)) ⊎ MarkedNode (schema e) (names e) (Finish (schema e) (names e)) rest (at e id)
-
--- how far the numbers of a block go
-abbrev pub end_of : Block → ℕ
-end_of b = b.start + length b.marks.items
+FinishesFirst e rest id = marked.FinishesFirst (automaton e) rest id
 
 -- the marks of a block say which of its states can finish so that the first code has a node, or none follows
-pub record IsBlock (e : Explorer) (b : Block) : Type 0 where
-  pub few : end_of b ≤ length (found e)
-  pub each : (i : ℕ) (mark : Bool) → slice_get b.marks.items i ≡ Some mark → IsTrue mark ↔ FinishesFirst e b.rest (b.start + i)
+abbrev pub IsBlock : Explorer → Block → Type 0
+IsBlock e b = marked.IsBlock (automaton e) b
 
 -- codes without a node lead from the states below the number to such ones
-pub record IsClosed (e : Explorer) (frees : List (Option StateId)) (n : ℕ) : Type 0 where
-  pub most : n ≤ length frees
-  pub free : (id : ℕ) (next : Option StateId) → slice_get frees id ≡ Some next → IsFree (schema e) (names e) (found e) (at e id) next
-  pub stays : (id : ℕ) (next : StateId) → id < n → slice_get frees id ≡ Some (Some next) → next.0 < n
-
--- an arc of the row leads to a state with a mark
-pub record LeadsOn (row : List Arc) (marks : List Bool) : Type 0 where
-  pub place : ℕ
-  pub arc : Arc
-  pub is : slice_get row place ≡ Some arc
-  pub marked : slice_get marks arc.next.0 ≡ Some true
-
--- the arcs of the row lead to states below the number
-pub record IsWithin (row : List Arc) (n : ℕ) : Type 0 where
-  pub each : (i : ℕ) (a : Arc) → slice_get row i ≡ Some a → a.next.0 < n
+abbrev pub IsClosed : Explorer → List (Option StateId) → ℕ → Type 0
+IsClosed e frees n = marked.IsClosed (automaton e) frees n
 
 -- what follows the state of the number by codes with a node, and which of these states can finish with one node less
-pub record IsReadyNode (e : Explorer) (rows : List (List Arc)) (left : ℕ) (id : ℕ) (marks : List (List Bool)) : Type 0 where
-  pub row : List Arc
-  pub is_row : slice_get rows id ≡ Some row
-  pub leads : IsRow (schema e) (names e) (found e) (at e id) row
-  pub list : List Bool
-  pub is_list : slice_get marks left ≡ Some list
-  pub right : AreMarks e left list
-  pub within : IsWithin row (length list)
+abbrev pub IsReadyNode : Explorer → List (List Arc) → ℕ → ℕ → List (List Bool) → Type 0
+IsReadyNode e rows left id marks = marked.IsReadyNode (automaton e) rows left id marks
 
 -- what is to be known to mark a state
-pub record IsReady (e : Explorer) (rows : List (List Arc)) (rest : ℕ) (id : ℕ) (marks : List (List Bool)) : Type 0 where
-  pub held : id < length (found e)
-  pub node : (left : ℕ) → rest ≡ left + 1 → IsReadyNode e rows left id marks
+abbrev pub IsReady : Explorer → List (List Arc) → ℕ → ℕ → List (List Bool) → Type 0
+IsReady e rows rest id marks = marked.IsReady (automaton e) rows rest id marks
 
 -- it holds of the states below the number
-pub record AreReady (e : Explorer) (rows : List (List Arc)) (rest n : ℕ) (marks : List (List Bool)) : Type 0 where
-  pub each : (id : ℕ) → id < n → IsReady e rows rest id marks
+abbrev pub AreReady : Explorer → List (List Arc) → ℕ → ℕ → List (List Bool) → Type 0
+AreReady e rows rest n marks = marked.AreReady (automaton e) rows rest n marks
+
+-- the entries of a list say which states can finish with so many nodes
+abbrev pub AreMarks : Explorer → ℕ → List Bool → Type 0
+AreMarks e rest list = marked.AreMarks (automaton e) rest list
 
 -- each list of marks is right
-pub record AreRight (e : Explorer) (marks : List (List Bool)) : Type 0 where
-  pub right : (rest : ℕ) (list : List Bool) → slice_get marks rest ≡ Some list → AreMarks e rest list
-
--- the list of so many nodes has marks of the states below the number
-abbrev pub HasMarks : List (List Bool) → ℕ → ℕ → Type 0
-HasMarks marks rest n = (list : List Bool) × (slice_get marks rest ≡ Some list) × (n ≤ length list)
+abbrev pub AreRight : Explorer → List (List Bool) → Type 0
+AreRight e marks = marked.AreRight (automaton e) marks
 
 -- Where fewer nodes than the bound are left, the states that the others reach are marked.
 pub record AreMarked (e : Explorer) (levels : List ℕ) (bound : ℕ) (marks : List (List Bool)) : Type 0 where
   pub many : bound ≤ length marks
   pub all : (rest k n : ℕ) → rest < bound → k + rest ≡ e.level → slice_get levels k ≡ Some n → HasMarks marks rest n
-
--- the lists of fewer nodes stay
-pub record Stay (rest : ℕ) (old new : List (List Bool)) : Type 0 where
-  pub longer : length old ≤ length new
-  pub same : (k : ℕ) → k < rest → slice_get new k ≡ slice_get old k
-
--- each list has marks of the states of which it had them
-pub record KeepsMarks (old new : List (List Bool)) : Type 0 where
-  pub kept : (rest n : ℕ) → HasMarks old rest n → HasMarks new rest n
-
--- no arc before the place leads to a state with a mark
-pub record NoneLeads (row : List Arc) (marks : List Bool) (place : ℕ) : Type 0 where
-  pub none : (i : ℕ) (a : Arc) → i < place → slice_get row i ≡ Some a → slice_get marks a.next.0 ≡ Some false
 
 -- What is so of every table: its states are found, and marked.
 pub record IsFilled (e : Explorer) (frees : List (Option StateId)) (rows : List (List Arc)) (levels : List ℕ) (marks : List (List Bool)) : Type 0 where

@@ -10,11 +10,8 @@ ghost use Rattle.table_laws.specs.Reaching.{free_code, weight};
 ghost use Rattle.feasibility.specs.Families.{IsSmall, family_code};
 ghost use Rattle.feasibility.specs.Exploring.{IsAfter, IsExploring, IsFreeAt, IsLeading, IsReachedBefore, IsRowAt, Finds, IsFound, IsPattern, IsRightly, at, found, names, pool, schema};
 
-use crate::arc::Arc;
 use crate::family::Family;
 use crate::fault::Refusal;
-use crate::row::Row;
-use crate::state_id::StateId;
 use derivatives::{Derivatives, Place, State};
 use indexmap::IndexSet;
 use outside::Steps;
@@ -23,6 +20,7 @@ use skeleton::Code;
 use std::alloc::AllocError;
 use std::sync::ledger::Ledger;
 use text_atoms::Groups;
+use transitions::{Arc, Row, StateId};
 
 /// The states that were found so far, and what finds more: derivatives, and the groups of alike names and texts.
 #[derive(Drop)]

@@ -10,13 +10,12 @@ ghost use Rattle.feasibility.specs.Exploring.{IsExploring, IsKnown, IsPattern, I
 use crate::explorer::Explorer;
 use crate::family::Family;
 use crate::fault::Refusal;
-use crate::row::Row;
-use crate::state_id::StateId;
 use outside::Steps;
 use pattern_intern::PatternId;
 use std::alloc::AllocError;
 use std::sync::ledger::Ledger;
 use text_atoms::is_white;
+use transitions::{Row, StateId};
 
 impl Explorer {
     // How many positions there are.

@@ -4,10 +4,10 @@ ghost use Rattle.table_laws.specs.Finishing.{Finish};
 ghost use Rattle.feasibility.specs.Following.{IsGrownFor, IsHeld};
 ghost use Rattle.feasibility.specs.Tables.{lists, state_of};
 
-use crate::state_id::StateId;
 use crate::table::Table;
 use outside::Steps;
 use std::sync::ledger::Ledger;
+use transitions::StateId;
 
 impl Table {
     /// Whether some codes with exactly `rest` nodes lead from the state to one that accepts. It counts one step and takes no memory.

@@ -9,13 +9,11 @@ ghost use Rattle.feasibility.specs.Growing.{AreFrees, AreGrown, AreRowsOf, AddsF
 use crate::explorer::Explorer;
 use crate::fault::Refusal;
 use crate::note::note;
-use crate::row::Row;
-use crate::row_list::RowList;
-use crate::state_id::StateId;
 use crate::states::{Extent, States};
 use outside::Steps;
 use std::alloc::Global;
 use std::sync::ledger::Ledger;
+use transitions::{Row, RowList, StateId};
 
 // Finds where the code without a node leads from the first state of which that isn't known.
 fn add_free<L: Ledger>(

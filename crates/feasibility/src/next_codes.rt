@@ -2,21 +2,19 @@
 ghost use Rattle.std.specs.Prelude.{◌+◌, ◌*◌, ◌<◌, ◌≤◌, ◌↔◌, IfNone, IfSome, IsTrue, length, option_map};
 ghost use Rattle.rng_model.specs.Universe.{event_count};
 ghost use Rattle.skeleton.specs.Views.{code_of};
+ghost use Rattle.transitions.specs.Bounds.{IsPast};
 ghost use Rattle.feasibility.specs.Exploring.{IsExploring, names};
-ghost use Rattle.feasibility.specs.Following.{IsGrownFor, IsHeld, IsNextTaken, IsPast, NothingTaken};
+ghost use Rattle.feasibility.specs.Following.{IsGrownFor, IsHeld, IsNextTaken, NothingTaken};
 ghost use Rattle.feasibility.specs.Marking.{IsReady};
 ghost use Rattle.feasibility.specs.Tables.{lists};
 ghost use Rattle.feasibility.specs.Taking.{IsFreeKnown, IsLeastTaken, NoneTaken};
 
 use crate::explorer::{Explorer, free_code};
-use crate::marks::Marks;
-use crate::row_list::RowList;
-use crate::row_search::next_marked;
-use crate::state_id::StateId;
 use crate::table::Table;
 use outside::Steps;
 use skeleton::Code;
 use std::sync::ledger::Ledger;
+use transitions::{Marks, RowList, StateId, next_marked};
 
 // Whether a code is greater than the bound, if there is one.
 fn is_past(bound: Option<Code>, code: Code) -> bool

@@ -13,12 +13,11 @@ use crate::explorer::Explorer;
 use crate::family::Family;
 use crate::fault::Refusal;
 use crate::known::Known;
-use crate::row::Row;
-use crate::state_id::StateId;
 use derivatives::Place;
 use outside::Steps;
 use std::alloc::Global;
 use std::sync::ledger::Ledger;
+use transitions::{Row, StateId};
 
 impl Explorer {
     // Adds to a row what the attributes of a name lead to, which is taken. Patterns after those of an alike name are taken, and others are kept.

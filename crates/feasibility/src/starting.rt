@@ -9,7 +9,7 @@ ghost use Rattle.rng_model.specs.Universe.{AreLists};
 ghost use Rattle.table_laws.specs.Premises.{AreListable};
 ghost use Rattle.text_atoms.specs.Origins.{texts_of};
 ghost use Rattle.pattern_intern.specs.Stored.{count as pattern_count, tree_at};
-ghost use Rattle.feasibility.specs.declared.state_id.StateId.{StateId as Id};
+ghost use Rattle.transitions.specs.declared.state_id.StateId.{StateId as Id};
 ghost use Rattle.feasibility.specs.Alikes.{AreAlikeIn};
 ghost use Rattle.feasibility.specs.Exploring.{IsExploring, Finds, found, schema as schema_in};
 ghost use Rattle.feasibility.specs.Grown.{IsStarted};
@@ -17,7 +17,6 @@ ghost use Rattle.feasibility.specs.Tables.{lists_of};
 
 use crate::explorer::{Explorer, add};
 use crate::note::note;
-use crate::state_id::StateId;
 use derivatives::Derivatives;
 use indexmap::IndexSet;
 use line_laws::codes_compare_as_events;
@@ -25,6 +24,7 @@ use name_universe::{Universe, alike_attributes, alike_elements};
 use pattern_intern::{PatternId, Pool, Schema};
 use std::alloc::{AllocError, Global};
 use text_atoms::{Atoms, Groups, alike_atoms};
+use transitions::StateId;
 
 // The texts of atoms are UTF-8.
 fn are_texts(atoms: &Atoms)

@@ -4,10 +4,9 @@ ghost use Rattle.feasibility.specs.Growing.{AreGrown, IsBegun, IsExtent, IsNew};
 
 use crate::explorer::Explorer;
 use crate::note::note;
-use crate::row_list::RowList;
 use crate::starting::add_dead;
-use crate::state_id::StateId;
 use std::alloc::{AllocError, Global};
+use transitions::{RowList, StateId};
 
 /// The states that are found, and what follows each.
 #[derive(Drop)]

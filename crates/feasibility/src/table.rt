@@ -7,19 +7,18 @@ ghost use Rattle.rng_model.specs.States.{ReachesMore};
 ghost use Rattle.rng_model.specs.Universe.{AreLists};
 ghost use Rattle.table_laws.specs.Premises.{AreListable};
 ghost use Rattle.table_laws.specs.Reaching.{start_state};
+ghost use Rattle.transitions.specs.Marked.{KeepsMarks};
 ghost use Rattle.feasibility.specs.Following.{IsHeld};
 ghost use Rattle.feasibility.specs.declared.fault.Refusal.TheVariants.{Full};
 ghost use Rattle.feasibility.specs.Exploring.{IsExploring, names, schema};
 ghost use Rattle.feasibility.specs.Growing.{AreGrown, GoesOn, IsBegun, IsNew, cost_of, full_cost, parts_of};
 ghost use Rattle.feasibility.specs.Limits.{IsOverLimit};
-ghost use Rattle.feasibility.specs.Marking.{AreFilled, AreRight, KeepsMarks};
+ghost use Rattle.feasibility.specs.Marking.{AreFilled, AreRight};
 ghost use Rattle.feasibility.specs.Tables.{IsTable, Keeps, group_total, lists, lists_of, state_of};
 
 use crate::explorer::Explorer;
 use crate::fault::{Refusal, TableFault, table_fault};
-use crate::marks::Marks;
 use crate::starting::are_listable;
-use crate::state_id::StateId;
 use crate::states::States;
 use name_universe::Universe;
 use outside::Steps;
@@ -28,6 +27,7 @@ use std::alloc::{AllocError, Global};
 use std::marker::Model;
 use std::sync::ledger::Ledger;
 use text_atoms::Atoms;
+use transitions::{Marks, StateId};
 
 /// The states that a schema's codes lead to, with what each can still finish.
 #[derive(Drop)]
@@ -73,12 +73,9 @@ fn mark(states: &States, marks: &mut Marks) -> Result<(), AllocError>
     ensures right { AreRight states.now.explorer marks.new }
     ensures kept { KeepsMarks marks.old marks.new }
 {
-    marks.grow(
-        &states.explorer,
-        &states.frees,
-        &states.rows,
-        &states.levels,
-    )
+    states
+        .explorer
+        .mark(&states.frees, &states.rows, &states.levels, marks)
 }
 
 // Finds and marks what no node reaches.

@@ -10,9 +10,9 @@ ghost use Rattle.pattern_intern.specs.Stored.{count, tree_at};
 ghost use Rattle.feasibility.specs.Exploring.{IsExploring, Finds, at, found, names, pool, schema};
 
 use crate::explorer::Explorer;
-use crate::state_id::StateId;
 use pattern_intern::PatternId;
 use std::alloc::AllocError;
+use transitions::StateId;
 
 impl Explorer {
     // The pattern of a state.

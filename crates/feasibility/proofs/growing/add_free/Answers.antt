@@ -1,5 +1,5 @@
 use Rattle.std.proofs.Common.{◌≡◌, List, Option, length, sym, subst, arith}
-use Rattle.feasibility.specs.declared.state_id.StateId.{StateId}
+use Rattle.transitions.specs.declared.state_id.StateId.{StateId}
 use Rattle.feasibility.specs.Exploring.{IsFreeAt}
 use Rattle.feasibility.specs.Growing.{AddsFrees}
 use Rattle.feasibility.proofs.Adding.{frees_found, frees_one, reached_now}

@@ -1,6 +1,6 @@
 use Rattle.std.proofs.Common.{◌≡◌, List, [], ◌∷◌, ◌++◌, length, sym, ◌∙◌, ap, subst, arith}
-use Rattle.feasibility.specs.declared.arc.Arc.{Arc}
-use Rattle.feasibility.specs.Arcs.{IsRow}
+use Rattle.transitions.specs.declared.arc.Arc.{Arc}
+use Rattle.transitions.specs.Arcs.{IsRow}
 use Rattle.feasibility.specs.Exploring.{IsReachedBefore, at, found, names, schema}
 use Rattle.feasibility.specs.Growing.{AddsRows}
 use Rattle.feasibility.proofs.Adding.{rows_found, rows_one}

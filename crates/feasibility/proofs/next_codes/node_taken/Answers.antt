@@ -1,9 +1,9 @@
 use Rattle.std.proofs.Common.{List, ◌≡◌, ◌+◌, ◌-◌, length, arith, sym, ap, subst, option_map}
 use Rattle.skeleton.specs.Views.{code_of}
-use Rattle.feasibility.specs.declared.arc.Arc.{Arc}
-use Rattle.feasibility.specs.Taking.{AreListed, IsInOrder, IsLeastMarked, NoneMarked}
+use Rattle.transitions.specs.declared.arc.Arc.{Arc}
+use Rattle.transitions.specs.Searches.{AreListed, IsInOrder, IsLeastMarked, NoneMarked}
+use Rattle.transitions.proofs.Lists.{same_row}
 use Rattle.feasibility.proofs.Departing.{in_order, none_so}
-use Rattle.feasibility.proofs.Marking.{same_row}
 use Rattle.feasibility.proofs.Shortness.{row_short}
 use Rattle.feasibility.proofs.Taken.{node_is, none_goes, some_so}
 use Rattle.feasibility.proofs.next_codes.node_taken.Goals as goal

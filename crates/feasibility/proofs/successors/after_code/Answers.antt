@@ -1,9 +1,9 @@
 use Rattle.std.proofs.Common.{List, subst}
 use Rattle.skeleton.specs.Views.{code_of}
-use Rattle.feasibility.specs.declared.arc.Arc.{Arc}
-use Rattle.feasibility.specs.Taking.{GoesNowhere}
+use Rattle.transitions.specs.declared.arc.Arc.{Arc}
+use Rattle.transitions.specs.Searches.{GoesNowhere}
+use Rattle.transitions.proofs.Lists.{same_row}
 use Rattle.feasibility.proofs.Departing.{led_nowhere, none_so}
-use Rattle.feasibility.proofs.Marking.{same_row}
 use Rattle.feasibility.proofs.successors.after_code.Goals as goal
 
 pub returns-then-has_node-clause-none : goal.returns-then-has_node-clause-none

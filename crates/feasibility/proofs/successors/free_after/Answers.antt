@@ -1,8 +1,8 @@
 use Rattle.std.proofs.Common.{None, arith, ◌∙◌, ap}
 use Rattle.table_laws.specs.Reaching.{free_code}
 use Rattle.skeleton.specs.Views.{code_of}
+use Rattle.transitions.proofs.Lists.{get_here}
 use Rattle.feasibility.proofs.Departing.{free_none, free_some}
-use Rattle.feasibility.proofs.Marking.{get_here}
 use Rattle.feasibility.proofs.successors.free_after.Goals as goal
 
 pub returns-then-is_free-clause-some : goal.returns-then-is_free-clause-some

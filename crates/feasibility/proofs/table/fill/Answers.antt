@@ -1,6 +1,7 @@
 use Rattle.std.proofs.Common.{arith}
+use Rattle.transitions.proofs.Keeping.{keeps_marks}
 use Rattle.feasibility.proofs.Adding.{on_err}
-use Rattle.feasibility.proofs.Keeping.{keeps_marks, right_grown}
+use Rattle.feasibility.proofs.Keeping.{right_grown}
 use Rattle.feasibility.proofs.Tabling.{few_costs}
 use Rattle.feasibility.proofs.table.fill.Goals as goal
 

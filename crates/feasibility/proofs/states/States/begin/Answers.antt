@@ -1,5 +1,5 @@
 use Rattle.std.proofs.Common.{ℕ, List, [], ◌∷◌, ◌++◌, length, sym, ◌∙◌, ap, subst, arith}
-use Rattle.feasibility.specs.declared.arc.Arc.{Arc}
+use Rattle.transitions.specs.declared.arc.Arc.{Arc}
 use Rattle.feasibility.specs.Exploring.{found}
 use Rattle.feasibility.specs.Grown.{IsGrown}
 use Rattle.feasibility.proofs.Beginning.{grown_first}

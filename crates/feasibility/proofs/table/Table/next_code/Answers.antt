@@ -1,5 +1,5 @@
 use Rattle.std.proofs.Common.{List, Option, sym, subst}
-use Rattle.feasibility.specs.declared.state_id.StateId.{StateId}
+use Rattle.transitions.specs.declared.state_id.StateId.{StateId}
 use Rattle.feasibility.specs.Following.{IsGrownFor, IsHeld}
 use Rattle.feasibility.specs.Tables.{Table}
 use Rattle.feasibility.specs.Taking.{IsFreeKnown}

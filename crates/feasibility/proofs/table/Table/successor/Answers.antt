@@ -1,7 +1,7 @@
 use Rattle.std.proofs.Common.{List, Option, sym, subst}
 use Rattle.table_laws.specs.Reaching.{weight}
 use Rattle.skeleton.specs.Views.{code_of}
-use Rattle.feasibility.specs.declared.state_id.StateId.{StateId}
+use Rattle.transitions.specs.declared.state_id.StateId.{StateId}
 use Rattle.feasibility.specs.Following.{IsGrownFor, IsHeld}
 use Rattle.feasibility.specs.Tables.{Table}
 use Rattle.feasibility.specs.Taking.{IsKnownFor}

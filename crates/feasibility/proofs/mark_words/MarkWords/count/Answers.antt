@@ -1,6 +1,0 @@
-use Rattle.std.proofs.Common.{◌∙◌}
-use Rattle.feasibility.proofs.Columns.{count_is}
-use Rattle.feasibility.proofs.mark_words.MarkWords.count.Goals as goal
-
-pub returns : goal.returns
-returns c = c.len.ensures ∙ c.self.inside.lens.ok.0 ∙ count_is c.self.inside.words.items c.self.inside.lens.items c.args.self.now c.self.view_is

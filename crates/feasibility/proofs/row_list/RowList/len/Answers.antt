@@ -1,8 +1,0 @@
-use Rattle.std.proofs.Common.{List, length, ◌∙◌, ap, sym}
-use Rattle.feasibility.specs.declared.arc.Arc.{Arc}
-use Rattle.feasibility.proofs.Ending.{length_rows}
-use Rattle.feasibility.proofs.row_list.RowList.len.Goals as goal
-
-pub returns : goal.returns
-returns c =
-    c.len.ensures ∙ c.self.inside.ends.ok.0 ∙ sym (length_rows c.self.inside.arcs.items 0 c.self.inside.ends.items) ∙ ap (λ (rows : List (List Arc)). length rows) c.self.view_is

@@ -1,0 +1,9 @@
+pub mod Columns
+pub mod Ending
+pub mod Finishing
+pub mod Keeping
+pub mod Lists
+pub mod Ordered
+pub mod Parts
+pub mod Searching
+pub mod Settling
