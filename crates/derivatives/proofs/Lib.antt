@@ -12,3 +12,4 @@ pub mod RemainderSets
 pub mod Gathered
 pub mod Entering
 pub mod OneNames
+pub mod Seen

@@ -343,7 +343,6 @@ impl Derivatives {
     }
 
     // What may follow an attribute.
-    #[tactic(auto, using(crate::proofs::Keeping::right_extends, crate::proofs::KeepingTexts::sets_extend, crate::proofs::Keeping::bare_extends, crate::proofs::OneNames::one_extends, crate::proofs::RemainderSets::remainder_sets_extend))]
     fn attributed(
         &mut self,
         pattern: PatternId,
@@ -374,7 +373,6 @@ impl Derivatives {
     }
 
     // What may follow a text.
-    #[tactic(auto, using(crate::proofs::Keeping::right_extends, crate::proofs::KeepingTexts::sets_extend, crate::proofs::Keeping::bare_extends, crate::proofs::OneNames::one_extends, crate::proofs::RemainderSets::remainder_sets_extend))]
     fn said(&mut self, pattern: PatternId, text: usize) -> Result<PatternId, AllocError>
         requires inside { pattern.0 < count self.old.numbered.pool }
         requires text { text < length (lists self.old).atoms }
@@ -389,7 +387,6 @@ impl Derivatives {
     }
 
     // What may follow the end of an element after its last text or element.
-    #[tactic(auto, using(crate::proofs::Keeping::right_extends, crate::proofs::KeepingTexts::sets_extend, crate::proofs::Keeping::bare_extends, crate::proofs::OneNames::one_extends, crate::proofs::RemainderSets::remainder_sets_extend))]
     fn ended(&mut self, pattern: PatternId) -> Result<PatternId, AllocError>
         requires { pattern.0 < count self.old.numbered.pool }
         ensures within { IfOk result (λ r. r.0 < count self.new.numbered.pool) }
@@ -400,7 +397,6 @@ impl Derivatives {
     }
 
     // What may follow the end of an element in which there was nothing, or an empty text.
-    #[tactic(auto, using(crate::proofs::Keeping::right_extends, crate::proofs::KeepingTexts::sets_extend, crate::proofs::Keeping::bare_extends, crate::proofs::OneNames::one_extends, crate::proofs::RemainderSets::remainder_sets_extend))]
     fn ended_fresh(&mut self, pattern: PatternId) -> Result<PatternId, AllocError>
         requires { pattern.0 < count self.old.numbered.pool }
         ensures within { IfOk result (λ r. r.0 < count self.new.numbered.pool) }
