@@ -260,7 +260,6 @@ impl Derivatives {
     }
 
     // After the end of a tag.
-    #[tactic(auto, using(crate::proofs::KeepingTexts::sets_extend, crate::proofs::Keeping::bare_extends, crate::proofs::OneNames::one_extends, crate::proofs::RemainderSets::remainder_sets_extend))]
     fn body(&mut self, state: State) -> Result<Option<State>, AllocError>
         requires { state.pattern.0 < count self.old.numbered.pool }
         ensures some { IfOk result (λ r. IfSome r (λ t. IsNext self.old self.new state Body t)) }
@@ -320,7 +319,6 @@ impl Derivatives {
     }
 
     // What may follow an element's name.
-    #[tactic(auto, using(crate::proofs::Keeping::right_extends, crate::proofs::KeepingTexts::sets_extend, crate::proofs::Keeping::bare_extends, crate::proofs::OneNames::one_extends, crate::proofs::OneNames::one_tells))]
     fn opened(&mut self, pattern: PatternId, name: usize) -> Result<PatternId, AllocError>
         requires inside { pattern.0 < count self.old.numbered.pool }
         requires name { name < length (lists self.old).elements }
