@@ -83,7 +83,6 @@ fn attribute_of_leaf(pool: &Pool, name: &Name, text: &Text, id: PatternId) -> Op
 
 /// The pattern after an attribute. Its parts' results are kept by number, and in `texts` those of contents after the text.
 #[cycle(attribute)]
-#[tactic(auto, unfolding(rng_model::specs::Derivatives::attribute_step))]
 pub(crate) fn attribute_step(
     schema: &mut Schema,
     kept: &mut Results,

@@ -36,7 +36,6 @@ fn close_of_leaf(pool: &Pool, id: PatternId) -> Option<PatternId>
 
 /// The pattern after a tag, without the attributes that may be left out. Its parts' results are kept by number.
 #[cycle(close)]
-#[tactic(auto, unfolding(rng_model::specs::Derivatives::close))]
 pub(crate) fn close(
     schema: &mut Schema,
     kept: &mut Results,

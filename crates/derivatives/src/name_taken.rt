@@ -28,7 +28,6 @@ fn name_of_leaf(pool: &Pool, name: &Name, id: PatternId) -> Option<bool>
 
 // Whether it may be taken: a number that was looked into in vain isn't looked into again.
 #[cycle(name)]
-#[tactic(auto, unfolding(table_laws::specs::Remainders::takes_name))]
 fn name_in(pool: &Pool, bare: &mut Visits, name: &Name, id: PatternId) -> Result<bool, AllocError>
     requires inside { id.0 < count pool.now }
     requires bare { AreBare (takes_name name.now) pool.now bare.old }

@@ -32,7 +32,6 @@ fn text_of_leaf(pool: &Pool, text: &Text, id: PatternId) -> Option<PatternId>
 
 /// The pattern after a text. Its parts' results are kept by number.
 #[cycle(text)]
-#[tactic(auto, unfolding(rng_model::specs::Derivatives::text_step))]
 pub(crate) fn text_step(
     schema: &mut Schema,
     kept: &mut TextResults,

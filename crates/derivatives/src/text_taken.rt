@@ -27,7 +27,6 @@ fn text_of_leaf(pool: &Pool, id: PatternId) -> Option<bool>
 
 // Whether it may be taken: a number that was looked into in vain isn't looked into again.
 #[cycle(text)]
-#[tactic(auto, unfolding(crate::specs::Takes::has_text))]
 fn text_in(pool: &Pool, bare: &mut Visits, id: PatternId) -> Result<bool, AllocError>
     requires inside { id.0 < count pool.now }
     requires bare { AreBare has_text pool.now bare.old }
