@@ -40,6 +40,7 @@ impl Derivatives {
     }
 
     /// Whether the pattern may open an element, of whatever name. Where it may not, each opening leads nowhere.
+    #[tactic(auto, using(crate::proofs::Keeping::right_extends, crate::proofs::KeepingTexts::sets_extend, crate::proofs::Keeping::bare_extends, crate::proofs::OneNames::one_extends))]
     pub fn takes_element(&mut self, pattern: PatternId) -> Result<bool, AllocError>
         requires { pattern.0 < count self.old.numbered.pool }
         ensures opens { IfOk result (λ b. (b ≡ false) ↔ (remainders (tree_at self.old.numbered.pool pattern.0) ≡ [])) }

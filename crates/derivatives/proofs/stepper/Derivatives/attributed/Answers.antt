@@ -12,8 +12,7 @@ attribute_step-requires-clause-texts c = texts_cleared _ _ c.self.inside.texts c
 
 pub invariant_of-self : goal.invariant_of-self
 invariant_of-self c =
-    let e = c.attribute_step.ensures.kept in let s = c.attribute_step.ensures.schema in
-    (
+    let e = c.attribute_step.ensures.kept in let s = c.attribute_step.ensures.schema in (
       right_extends _ _ _ _ c.self.invariant.0 e,
       c.attribute_step.ensures.texts.sets,
       remainder_sets_extend _ _ _ c.self.invariant.2 e s,

@@ -7,8 +7,7 @@ use Rattle.derivatives.proofs.stepper.Derivatives.body.Goals as goal
 
 pub invariant_of-self : goal.invariant_of-self
 invariant_of-self c =
-    let e = c.close.ensures.kept in let s = c.close.ensures.schema in
-    (
+    let e = c.close.ensures.kept in let s = c.close.ensures.schema in (
       c.close.ensures.right,
       sets_extend _ _ _ c.self.invariant.1 e,
       remainder_sets_extend _ _ _ c.self.invariant.2 e s,
@@ -18,8 +17,7 @@ invariant_of-self c =
 
 pub invariant_of-self-in-Tag : goal.invariant_of-self-in-Tag
 invariant_of-self-in-Tag c =
-    let e = c.close.ensures.kept in let s = c.close.ensures.schema in
-    (
+    let e = c.close.ensures.kept in let s = c.close.ensures.schema in (
       c.close.ensures.right,
       sets_extend _ _ _ c.self.invariant.1 e,
       remainder_sets_extend _ _ _ c.self.invariant.2 e s,

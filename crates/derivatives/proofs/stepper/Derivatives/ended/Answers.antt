@@ -7,8 +7,7 @@ use Rattle.derivatives.proofs.stepper.Derivatives.ended.Goals as goal
 
 pub invariant_of-self : goal.invariant_of-self
 invariant_of-self c =
-    let e = c.ending.ensures.kept in let s = c.ending.ensures.schema in
-    (
+    let e = c.ending.ensures.kept in let s = c.ending.ensures.schema in (
       right_extends _ _ _ _ c.self.invariant.0 e,
       sets_extend _ _ _ c.self.invariant.1 e,
       remainder_sets_extend _ _ _ c.self.invariant.2 e s,

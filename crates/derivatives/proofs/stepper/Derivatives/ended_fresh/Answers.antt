@@ -9,8 +9,7 @@ fresh_ending-requires-clause-texts c = texts_cleared _ _ c.self.inside.texts c.c
 
 pub invariant_of-self : goal.invariant_of-self
 invariant_of-self c =
-    let e = c.fresh_ending.ensures.kept in let s = c.fresh_ending.ensures.schema in
-    (
+    let e = c.fresh_ending.ensures.kept in let s = c.fresh_ending.ensures.schema in (
       right_extends _ _ _ _ c.self.invariant.0 e,
       c.fresh_ending.ensures.sets,
       remainder_sets_extend _ _ _ c.self.invariant.2 e s,

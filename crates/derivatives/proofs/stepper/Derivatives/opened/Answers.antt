@@ -13,8 +13,7 @@ opening-requires-clause-tell c =
 
 pub invariant_of-self-2 : goal.invariant_of-self-2
 invariant_of-self-2 c =
-    let e = c.opening.ensures.kept in let s = c.opening.ensures.schema in
-    (
+    let e = c.opening.ensures.kept in let s = c.opening.ensures.schema in (
       right_extends _ _ _ _ c.self.invariant.0 e,
       sets_extend _ _ _ c.self.invariant.1 e,
       c.opening.ensures.sets,

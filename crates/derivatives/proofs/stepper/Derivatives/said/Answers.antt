@@ -9,8 +9,7 @@ text_step-requires-clause-right c = texts_cleared _ _ c.self.inside.texts c.clea
 
 pub invariant_of-self : goal.invariant_of-self
 invariant_of-self c =
-    let e = c.text_step.ensures.kept in let s = c.text_step.ensures.schema in
-    (
+    let e = c.text_step.ensures.kept in let s = c.text_step.ensures.schema in (
       right_extends _ _ _ _ c.self.invariant.0 e,
       c.text_step.ensures.right.sets,
       remainder_sets_extend _ _ _ c.self.invariant.2 e s,
