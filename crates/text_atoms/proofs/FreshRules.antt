@@ -12,7 +12,7 @@ use Rattle.rng_model.specs.Fresh.{numbered}
 use Rattle.rng_model.specs.Atoms.{Literals, spaced, IsStringLiteral, IsTokenForm, IsTokenAtom, IsNormalAtom, IsSample, samples, IsFreshText}
 use Rattle.text_atoms.specs.declared.origin.Origin.{Origin}
 use Rattle.text_atoms.specs.declared.origin.Origin.TheVariants.{StringLiteral, TokenForm, NormalForm, Sample, Fresh, Extra}
-use Rattle.text_atoms.specs.Origins.{rank_of, Gives, origin_in, Extends, HasRules}
+use Rattle.text_atoms.specs.Origins.{rank_of, Gives, origin_in, Extends, HasRules, HasFresh}
 use Rattle.text_atoms.proofs.FreshTexts.{first-same}
 use Rattle.text_atoms.proofs.Extending.{Map, some_of, extends-as, no_rules, more_rules}
 
@@ -104,26 +104,22 @@ module _ (l : Literals) (extra : List Text) (x : Text) (fresh : IsFreshText l x)
   fresh_alone Fresh h g = omega arith
   fresh_alone Extra h g = omega arith
 
-pub empty_map : (m : BTreeMap Text Origin) → tree.IsEmpty m → (x : Text) → origin_in m x ≡ None
+empty_map : (m : BTreeMap Text Origin) → tree.IsEmpty m → (x : Text) → origin_in m x ≡ None
 empty_map m e x = rw e refl
 
--- the map has all rules, and a text whose first rule is the fifth
-pub record IsWhole (l : Literals) (extra : List Text) (f : Map) : Type 0 where
-  pub rules : HasRules l extra 6 f
-  pub fresh : (x : Text) × (f x ≡ Some Fresh)
-
-pub all_rules : (l : Literals) (extra : List Text) (f0 f1 f2 f3 f4 f5 f6 : Map) (ss ts os ms : List Text) (t : Text) → ((x : Text) → f0 x ≡ None) →
-    ((x : Text) → Contains ss x ↔ IsStringLiteral l x) → ((x : Text) → Contains ts x ↔ IsTokenAtom l x) → ((x : Text) → Contains os x ↔ IsNormalAtom l x) → ((x : Text) → Contains ms x ↔ IsSample l x) →
-    IsFreshText l t → Extends f0 f1 StringLiteral (Contains ss) → Extends f1 f2 TokenForm (Contains ts) → Extends f2 f3 NormalForm (Contains os) → Extends f3 f4 Sample (Contains ms) →
-    Extends f4 f5 Fresh (λ x. x ≡ t) → Extends f5 f6 Extra (Contains extra) → IsWhole l extra f6
-all_rules l extra f0 f1 f2 f3 f4 f5 f6 ss ts os ms t none hs ht ho hm fresh a b c d e g = record { rules = h6; fresh = (t, g.kept t Fresh at) }
+-- the string literals and the atoms of the token forms
+pub two_rules : (l : Literals) (f0 f1 f2 : Map) (ss ts : List Text) → ((x : Text) → Contains ss x ↔ IsStringLiteral l x) → ((x : Text) → Contains ts x ↔ IsTokenAtom l x) →
+    Extends f0 f1 StringLiteral (Contains ss) → Extends f1 f2 TokenForm (Contains ts) → (extra : List Text) → HasRules l extra 0 f0 → HasRules l extra 2 f2
+two_rules l f0 f1 f2 ss ts hs ht a b extra h0 = more_rules l extra f1 f2 1 TokenForm refl h1 (extends-as f1 f2 TokenForm (Contains ts) (IsTokenAtom l) (λ x. (ht x).0) (λ x. (ht x).1) b)
   where
     h1 : HasRules l extra 1 f1
-    h1 = more_rules l extra f0 f1 0 StringLiteral refl (no_rules l extra f0 none) (extends-as f0 f1 StringLiteral (Contains ss) (IsStringLiteral l) (λ x. (hs x).0) (λ x. (hs x).1) a)
+    h1 = more_rules l extra f0 f1 0 StringLiteral refl h0 (extends-as f0 f1 StringLiteral (Contains ss) (IsStringLiteral l) (λ x. (hs x).0) (λ x. (hs x).1) a)
 
-    h2 : HasRules l extra 2 f2
-    h2 = more_rules l extra f1 f2 1 TokenForm refl h1 (extends-as f1 f2 TokenForm (Contains ts) (IsTokenAtom l) (λ x. (ht x).0) (λ x. (ht x).1) b)
-
+-- the normal forms, the samples and the fresh text
+pub five_rules : (l : Literals) (f2 f3 f4 f5 : Map) (os ms : List Text) (t : Text) → ((x : Text) → Contains os x ↔ IsNormalAtom l x) → ((x : Text) → Contains ms x ↔ IsSample l x) → IsFreshText l t →
+    Extends f2 f3 NormalForm (Contains os) → Extends f3 f4 Sample (Contains ms) → Extends f4 f5 Fresh (λ x. x ≡ t) → (extra : List Text) → HasRules l extra 2 f2 → HasFresh l extra 5 f5
+five_rules l f2 f3 f4 f5 os ms t ho hm fresh c d e extra h2 = record { rules = h5; fresh = (t, at) }
+  where
     h3 : HasRules l extra 3 f3
     h3 = more_rules l extra f2 f3 2 NormalForm refl h2 (extends-as f2 f3 NormalForm (Contains os) (IsNormalAtom l) (λ x. (ho x).0) (λ x. (ho x).1) c)
 
@@ -133,9 +129,6 @@ all_rules l extra f0 f1 f2 f3 f4 f5 f6 ss ts os ms t none hs ht ho hm fresh a b 
     h5 : HasRules l extra 5 f5
     h5 = more_rules l extra f4 f5 4 Fresh refl h4 (extends-as f4 f5 Fresh (λ x. x ≡ t) (IsFreshText l) (λ x s. subst (IsFreshText l) (sym s) fresh) (λ x s. first-same _ (codes "t") x t s fresh) e)
 
-    h6 : HasRules l extra 6 f6
-    h6 = more_rules l extra f5 f6 5 Extra refl h5 g
-
     at : f5 t ≡ Some Fresh
     at =
         let (p, found) = some_of (f5 t) (e.given t refl) in
@@ -143,3 +136,12 @@ all_rules l extra f0 f1 f2 f3 f4 f5 f6 ss ts os ms t none hs ht ho hm fresh a b 
           | inl k ↦ (let (below, rule) = h4.gives t p k in absurd (fresh_alone l extra t fresh p below rule.gives))
           | inr (n, same, s) ↦ found ∙ ap Some same
         ]
+
+-- the extra texts besides
+pub six_rules : (l : Literals) (extra : List Text) (f5 f6 : Map) → HasFresh l extra 5 f5 → Extends f5 f6 Extra (Contains extra) → HasFresh l extra 6 f6
+six_rules l extra f5 f6 h g =
+    let (t, at) = h.fresh in
+    record { rules = more_rules l extra f5 f6 5 Extra refl h.rules g; fresh = (t, g.kept t Fresh at) }
+
+pub empty_rules : (l : Literals) (extra : List Text) (m : BTreeMap Text Origin) → tree.IsEmpty m → HasRules l extra 0 (origin_in m)
+empty_rules l extra m e = no_rules l extra (origin_in m) (empty_map m e)

@@ -1,5 +1,5 @@
 -- Groups of alike texts, one position after another.
-use Rattle.std.proofs.Common.{◌≡◌, ℕ, zero, suc, ◌+◌, ◌<◌, ◌≤◌, ◌⊎◌, inl, inr, ◌↔◌, Bool, true, false, not, cond, ◌||◌, if◌then◌else◌, List, [], ◌∷◌, ◌++◌, length, refl, sym, ◌∙◌, ap, subst, arith, true≢false, Contains, Some, take, slice_get, length-append}
+use Rattle.std.proofs.Common.{◌≡◌, ℕ, zero, suc, ◌+◌, ◌<◌, ◌≤◌, ◌⊎◌, inl, inr, ◌↔◌, Bool, true, false, not, cond, ◌||◌, if◌then◌else◌, List, [], ◌∷◌, ◌++◌, length, refl, sym, ◌∙◌, ap, subst, arith, true≢false, Contains, Some, take, slice_get, length-append, Result, Ok, Err, IfOk}
 use Rattle.std.specs.List.{list_any, position_or_len}
 use Rattle.std.proofs.lemmas.List.{take_more, take_all}
 use Rattle.std.proofs.lemmas.List.Folds.{list_any_at}
@@ -12,11 +12,11 @@ use Rattle.rng_model.specs.Alike.{AreAlikeTexts, AreGroups, group_count}
 use Rattle.text_atoms.specs.declared.signature.KindValues.{KindValues}
 use Rattle.text_atoms.specs.declared.signature.Signature.{Signature}
 use Rattle.text_atoms.specs.contracts.signature.SignaturePartialEq.TheImpl as signature_eq
-use Rattle.text_atoms.specs.Signatures.{AreAllValues, IsSignature}
+use Rattle.text_atoms.specs.Signatures.{AreAllValues, all_variants, IsSignature, IsPut}
 use Rattle.text_atoms.proofs.Words.{by_test}
 use Rattle.text_atoms.proofs.Members.{member_at, place_of_member}
 use Rattle.text_atoms.proofs.Numbering.{numbered-push, count-push}
-use Rattle.text_atoms.proofs.Signatures.{all_variants, alike_by_signature, signature_by_alike, moved}
+use Rattle.text_atoms.proofs.Signatures.{alike_by_signature, signature_by_alike, moved}
 
 -- ---- lists with one more at the end
 get_front : {X : Type 0} (xs ys : List X) (i : ℕ) → i < length xs → slice_get (xs ++ ys) i ≡ slice_get xs i
@@ -209,11 +209,10 @@ module _ (l : Literals) (all : List KindValues) (are : AreAllValues l all_varian
           (length xs, x, get_last xs x, ap (slice_get (ks ++ g ∷ [])) (sym h.groups.same_length) ∙ get_last ks g ∙ ap Some (sym is), subst (IsSignature all x) (sym same) n.sees)
 
   -- the text at a position, after those before it
-  module _ (texts : List Text) (n : ℕ) (ks : List ℕ) (seen : List Signature) (x : Text) (g : ℕ) (now : List Signature) (s : Signature) (at : slice_get texts n ≡ Some x)
-      (h : IsGrouping l all (take n texts) ks seen) (sees : IsSignature all x s) (inserted : now ≡ insert_key signature_eq.eq-value.it seen s)
-      (index : g ≡ position_or_len (signature_eq.eq-value.it s) seen) (found : (a : Signature) × (slice_get now g ≡ Some a) × (signature_eq.eq-value.it s a ≡ true)) where
+  module _ (texts : List Text) (n : ℕ) (ks : List ℕ) (seen : List Signature) (x : Text) (g : ℕ) (now : List Signature) (at : slice_get texts n ≡ Some x)
+      (h : IsGrouping l all (take n texts) ks seen) (put : IsPut all x seen now g) where
     this : IsNext l all (take n texts) ks seen x g now
-    this = let (a, stored, equal) = found in next_text (take n texts) ks seen x g now s a h sees inserted index stored equal
+    this = let (a, stored, equal) = put.found in next_text (take n texts) ks seen x g now put.signature a h put.sees put.inserted put.index stored equal
 
     pub group_known : g ≤ group_count ks
     group_known = this.known
@@ -223,3 +222,8 @@ module _ (l : Literals) (all : List KindValues) (are : AreAllValues l all_varian
 
 pub all_grouped : (l : Literals) (texts : List Text) (n : ℕ) (ks : List ℕ) → length texts ≤ n → Groups_of l (take n texts) ks → Groups_of l texts ks
 all_grouped l texts n ks long h = subst (λ (xs : List Text). Groups_of l xs ks) (take_all n texts long) h
+
+-- what follows from what is said of a value that was made
+pub made_then : {T E : Type 0} (r : Result T E) (P Q : T → Type 0) → IfOk r P → ((x : T) → P x → Q x) → IfOk r Q
+made_then (Ok x) P Q h f = f x h
+made_then (Err e) P Q h f = tt

@@ -18,3 +18,4 @@ pub mod Finding
 pub mod Grouping
 pub mod SpacedForms
 pub mod StandingTexts
+mod FirstPlaces

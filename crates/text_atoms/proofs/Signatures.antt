@@ -10,7 +10,7 @@ use Rattle.std.proofs.lemmas.Map.Lookups.{exact_bytes}
 use Rattle.std.proofs.lemmas.Map.Views.{btree_set_contains_iff}
 use Rattle.std.specs.BTreeSet as tree
 use Rattle.std.specs.BTreeSet.{BTreeSet}
-use Rattle.std.proofs.lemmas.List.{take_more, map-append}
+use Rattle.std.proofs.lemmas.List.{take_more, map_more, map-append}
 use Rattle.std.proofs.lemmas.List.Elements.{Contains-push_cases}
 use Rattle.std.proofs.lemmas.Slice.Eq.{slice_eq-Decides}
 use Rattle.rng_model.specs.Texts.{Text, is_white}
@@ -29,7 +29,7 @@ use Rattle.text_atoms.specs.Kinds.{kind_of}
 use Rattle.text_atoms.specs.Literals.{place_of, members_of}
 use Rattle.text_atoms.specs.Parts.{part_of, parts_of}
 use Rattle.text_atoms.specs.Canonical.{canonical}
-use Rattle.text_atoms.specs.Signatures.{AreValuesOf, AreAllValues, value_in, mark_of, IsSignature}
+use Rattle.text_atoms.specs.Signatures.{AreValuesOf, AreAllValues, all_variants, value_in, mark_of, IsSignature}
 use Rattle.text_atoms.proofs.Words.{by_test}
 use Rattle.text_atoms.proofs.Members.{member_first, member_later, member_cases, member_none, map_member}
 use Rattle.text_atoms.proofs.Marks.{place_injective}
@@ -174,8 +174,10 @@ map_same : {X Y : Type 0} (f g : X → Y) (xs : List X) → ((x : X) → Contain
 map_same f g [] h = refl
 map_same f g (x ∷ xs) h = λ i. h x (member_first x xs) i ∷ map_same f g xs (λ y m. h y (member_later x y xs m)) i
 
-abbrev pub all_variants : List RustKind
-all_variants = rust.Str ∷ rust.Token ∷ rust.Boolean ∷ rust.Integer ∷ rust.NonNegative ∷ rust.Positive ∷ rust.NcName ∷ rust.Nmtoken ∷ []
+pub mark_more : (all : List KindValues) (t : Text) (i : ℕ) (s : KindValues) (old new : List Mark) → i < length all → s ≡ get_or all i s → old ≡ map (λ k. mark_of k t) (take i all) →
+    new ≡ old ++ mark_of s t ∷ [] → new ≡ map (λ k. mark_of k t) (take (i + 1) all)
+mark_more all t i s old new below at before more =
+    more ∙ ap (λ (m : List Mark). m ++ mark_of s t ∷ []) before ∙ ap (λ (v : KindValues). map (λ k. mark_of k t) (take i all) ++ mark_of v t ∷ []) at ∙ sym (map_more (λ k. mark_of k t) all i s below)
 
 -- every kind of the model is that of a variant
 variant_of : (k : Kind) → (v : RustKind) × Contains all_variants v × (kind_of v ≡ k)

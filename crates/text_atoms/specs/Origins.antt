@@ -60,3 +60,8 @@ pub record Extends (f g : Text → Option Origin) (o : Origin) (G : Text → Typ
 pub record HasRules (l : Literals) (extra : List Text) (n : ℕ) (f : Text → Option Origin) : Type 0 where
   pub gives : (x : Text) (o : Origin) → f x ≡ Some o → (rank_of o < n) × IsFirstRule l extra o x
   pub all : (x : Text) (o : Origin) → rank_of o < n → Gives l extra o x → IsSome (f x)
+
+-- what the first rules give, and the fresh text among it
+pub record HasFresh (l : Literals) (extra : List Text) (n : ℕ) (f : Text → Option Origin) : Type 0 where
+  pub rules : HasRules l extra n f
+  pub fresh : (x : Text) × (f x ≡ Some Fresh)

@@ -1,7 +1,7 @@
 // The atoms with their origins, while they are gathered.
-ghost use Rattle.std.specs.Prelude.{◌≡◌, Some, Contains, IfOk, OnOk};
+ghost use Rattle.std.specs.Prelude.{◌≡◌, List, Some, Contains, IfOk, OnOk};
 ghost use Rattle.rng_model.specs.Texts.{Text as TextValue};
-ghost use Rattle.text_atoms.specs.Origins.{origin_in, Extends, HasRules};
+ghost use Rattle.text_atoms.specs.Origins.{origin_in, Extends, HasRules, HasFresh};
 ghost use Rattle.text_atoms.specs.declared.origin.Origin.TheVariants.{Fresh, Extra};
 
 use crate::literals::Literals;
@@ -50,6 +50,50 @@ fn put_extra(
     Ok(())
 }
 
+// Adds the string literals and the atoms of the token forms.
+fn put_literals(
+    alloc: Global,
+    atoms: &mut BTreeMap<Text, Origin>,
+    literals: &Literals,
+) -> Result<(), AllocError>
+    ensures { OnOk result ((extra : List TextValue) → HasRules literals.now extra 0 (origin_in atoms.old) → HasRules literals.now extra 2 (origin_in atoms.new)) }
+{
+    let strings = string_literals(alloc, literals)?;
+    let tokens = token_atoms(alloc, literals, &strings)?;
+    put_all(atoms, strings, Origin::StringLiteral)?;
+    put_all(atoms, tokens, Origin::TokenForm)?;
+    Ok(())
+}
+
+// Adds what the rules behind these give.
+fn put_others(
+    alloc: Global,
+    atoms: &mut BTreeMap<Text, Origin>,
+    literals: &Literals,
+) -> Result<(), AllocError>
+    ensures { OnOk result ((extra : List TextValue) → HasRules literals.now extra 2 (origin_in atoms.old) → HasFresh literals.now extra 5 (origin_in atoms.new)) }
+{
+    put_all(atoms, other_forms(alloc, literals)?, Origin::NormalForm)?;
+    put_all(atoms, samples(alloc, literals)?, Origin::Sample)?;
+    put(atoms, fresh_text(alloc, literals)?, Origin::Fresh)?;
+    Ok(())
+}
+
+// Adds what all rules give, and the extra texts.
+fn put_rules(
+    alloc: Global,
+    atoms: &mut BTreeMap<Text, Origin>,
+    literals: &Literals,
+    extra: &TextList,
+) -> Result<(), AllocError>
+    ensures { OnOk result (HasRules literals.now extra.now 0 (origin_in atoms.old) → HasFresh literals.now extra.now 6 (origin_in atoms.new)) }
+{
+    put_literals(alloc, atoms, literals)?;
+    put_others(alloc, atoms, literals)?;
+    put_extra(alloc, atoms, extra.as_slice())?;
+    Ok(())
+}
+
 /// The atoms and the extra texts, each with the first rule that gives it.
 pub(crate) fn origins(
     alloc: Global,
@@ -59,17 +103,7 @@ pub(crate) fn origins(
     ensures rules { IfOk result (λ m. HasRules literals.now extra.now 6 (origin_in m)) }
     ensures fresh { IfOk result (λ m. (x : TextValue) × (origin_in m x ≡ Some Fresh)) }
 {
-    let strings = string_literals(alloc, literals)?;
-    let tokens = token_atoms(alloc, literals, &strings)?;
-    let others = other_forms(alloc, literals)?;
-    let samples = samples(alloc, literals)?;
-    let fresh = fresh_text(alloc, literals)?;
     let mut atoms = BTreeMap::new(alloc);
-    put_all(&mut atoms, strings, Origin::StringLiteral)?;
-    put_all(&mut atoms, tokens, Origin::TokenForm)?;
-    put_all(&mut atoms, others, Origin::NormalForm)?;
-    put_all(&mut atoms, samples, Origin::Sample)?;
-    put(&mut atoms, fresh, Origin::Fresh)?;
-    put_extra(alloc, &mut atoms, extra.as_slice())?;
+    put_rules(alloc, &mut atoms, literals, extra)?;
     Ok(atoms)
 }

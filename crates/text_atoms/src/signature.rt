@@ -1,5 +1,5 @@
 // What the literals see of a text.
-ghost use Rattle.std.specs.Prelude.{◌≡◌, IfOk};
+ghost use Rattle.std.specs.Prelude.{◌≡◌, [], ◌∷◌, ◌++◌, IfOk, OnOk};
 ghost use Rattle.text_atoms.specs.Signatures.{AreValuesOf, AreAllValues, IsSignature, mark_of};
 
 use crate::canonical::canonical;
@@ -77,6 +77,20 @@ impl Mark {
     }
 }
 
+// Adds the mark of a text for one kind.
+fn push_mark(
+    alloc: Global,
+    marks: &mut Vec<Mark>,
+    values: &KindValues,
+    text: &str,
+) -> Result<(), AllocError>
+    ensures { OnOk result (marks.new.items ≡ marks.old.items ++ mark_of values.now text.now ∷ []) }
+{
+    let mark = Mark::of(alloc, values, text)?;
+    marks.push(mark)?;
+    Ok(())
+}
+
 impl Signature {
     /// The signature of a text.
     pub(crate) fn of(alloc: Global, all: &[KindValues], text: &str) -> Result<Signature, AllocError>
@@ -84,7 +98,7 @@ impl Signature {
     {
         let mut marks = Vec::with_capacity(alloc, all.len())?;
         for values in all {
-            marks.push(Mark::of(alloc, values, text)?)?;
+            push_mark(alloc, &mut marks, values, text)?;
         }
         Ok(Signature {
             is_white: is_white(text),

@@ -1,8 +1,8 @@
-use Rattle.std.proofs.Common.{◌≡◌, ℕ, ◌<◌, Some, slice_get}
-use Rattle.rng_model.specs.Texts.{Text}
+use Rattle.std.proofs.Common.{◌≡◌}
 use Rattle.text_atoms.specs.declared.origin.Origin.TheVariants.{Fresh}
+use Rattle.text_atoms.specs.Standing.{NoneBefore}
 use Rattle.text_atoms.proofs.atoms.fresh_position.Given as goal
 
 -- none before this one is the fresh text
 abbrev pub invariant-loop-position : goal.invariant-loop-position
-invariant-loop-position l = (k : ℕ) (x : Text) → k < l.position → slice_get l.atoms k ≡ Some (x, Fresh) → ⊥
+invariant-loop-position l = NoneBefore l.atoms l.position (λ a. a.1 ≡ Fresh)
