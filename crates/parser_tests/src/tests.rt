@@ -1,6 +1,7 @@
 // Parts of schemas, read from the tokens of a text.
+use crate::outlines::{add_class, add_declarations, add_items, add_parts, add_pattern};
 use rnc_lexer::lex;
-use rnc_parser::{Cursor, ParseFault, class, declarations, file, items, parse, pattern};
+use rnc_parser::{Cursor, ParseFault, Stop, class, declarations, file, items, parse, pattern};
 use schema_tree::{Feature, first_reference, refused_feature};
 use sqlite_items::Items;
 use std::alloc::{AllocError, Global};
@@ -15,88 +16,169 @@ enum Wanted {
     File,
 }
 
-/// Whether the part is read.
-fn is_read(alloc: Global, wanted: Wanted, tokens: &mut Cursor<'_>) -> bool {
-    match wanted {
-        Wanted::Declarations => declarations(alloc, tokens).is_ok(),
-        Wanted::Class => class(alloc, tokens).is_ok(),
-        Wanted::Pattern => pattern(alloc, tokens).is_ok(),
-        Wanted::Items => items(alloc, tokens, Items::new(alloc), false).is_ok(),
-        Wanted::File => file(alloc, tokens).is_ok(),
+/// Adds why reading stopped.
+fn add_stop(to: &mut String, stop: Stop) -> Result<(), AllocError> {
+    match stop {
+        Stop::Syntax => to.push_str("syntax"),
+        Stop::OutOfMemory => to.push_str("memory"),
     }
 }
 
-/// Whether the part is read from the text, and how many tokens are left.
-fn reading(alloc: Global, wanted: Wanted, text: &str) -> Option<(bool, usize)> {
+fn read_declarations(
+    alloc: Global,
+    tokens: &mut Cursor<'_>,
+    to: &mut String,
+) -> Result<(), AllocError> {
+    match declarations(alloc, tokens) {
+        Ok(found) => add_declarations(alloc, to, found.as_slice()),
+        Err(stop) => add_stop(to, stop),
+    }
+}
+
+fn read_class(alloc: Global, tokens: &mut Cursor<'_>, to: &mut String) -> Result<(), AllocError> {
+    match class(alloc, tokens) {
+        Ok(found) => add_class(alloc, to, &found),
+        Err(stop) => add_stop(to, stop),
+    }
+}
+
+fn read_pattern(alloc: Global, tokens: &mut Cursor<'_>, to: &mut String) -> Result<(), AllocError> {
+    match pattern(alloc, tokens) {
+        Ok(found) => add_pattern(alloc, to, &found),
+        Err(stop) => add_stop(to, stop),
+    }
+}
+
+fn read_items(alloc: Global, tokens: &mut Cursor<'_>, to: &mut String) -> Result<(), AllocError> {
+    match items(alloc, tokens, Items::new(alloc), false) {
+        Ok(found) => add_items(alloc, to, found.as_slice()),
+        Err(stop) => add_stop(to, stop),
+    }
+}
+
+fn read_file(alloc: Global, tokens: &mut Cursor<'_>, to: &mut String) -> Result<(), AllocError> {
+    match file(alloc, tokens) {
+        Ok(found) => add_parts(alloc, to, &found),
+        Err(stop) => add_stop(to, stop),
+    }
+}
+
+/// Adds the tree of the part that is read, or why it isn't.
+fn read(
+    alloc: Global,
+    wanted: Wanted,
+    tokens: &mut Cursor<'_>,
+    to: &mut String,
+) -> Result<(), AllocError> {
+    match wanted {
+        Wanted::Declarations => read_declarations(alloc, tokens, to),
+        Wanted::Class => read_class(alloc, tokens, to),
+        Wanted::Pattern => read_pattern(alloc, tokens, to),
+        Wanted::Items => read_items(alloc, tokens, to),
+        Wanted::File => read_file(alloc, tokens, to),
+    }
+}
+
+/// Adds the tree of the part that is read from the text, or why it isn't, and gives how many tokens are left.
+fn reading(
+    alloc: Global,
+    wanted: Wanted,
+    text: &str,
+    to: &mut String,
+) -> Result<Option<usize>, AllocError> {
     match lex(alloc, text.as_bytes()) {
         Ok(tokens) => {
             let mut rest = Cursor::new(&tokens);
-            let is_read = is_read(alloc, wanted, &mut rest);
-            Some((is_read, rest.left()))
+            read(alloc, wanted, &mut rest, to)?;
+            Ok(Some(rest.left()))
         }
-        Err(_) => None,
+        Err(_) => Ok(None),
     }
 }
 
-/// A part of a schema, its text, whether it is read, and how many tokens are left.
-type PartRow = (Wanted, &'static str, bool, usize);
-
-/// The first row that ends otherwise.
-fn wrong_part(alloc: Global, rows: &[PartRow]) -> Option<usize> {
-    for (i, (wanted, text, is_read, left)) in rows.iter().enumerate() {
-        if reading(alloc, *wanted, *text) != Some((*is_read, *left)) {
-            return Some(i);
-        }
-    }
-    None
+/// Whether the part is read from the text as this tree, or not for this reason, with so many tokens left.
+fn is_read(
+    alloc: Global,
+    wanted: Wanted,
+    text: &str,
+    tree: &str,
+    left: usize,
+) -> Result<bool, AllocError> {
+    let mut found = String::new(alloc);
+    let is_left = reading(alloc, wanted, text, &mut found)? == Some(left);
+    Ok(is_left && found.as_str() == tree)
 }
 
 #[test]
-fn parts(rt: HostRuntime) {
+fn parts(rt: HostRuntime) -> Result<(), AllocError> {
     let rows = [
         (
             Wanted::Declarations,
             "default namespace x = 'a' ~ 'b' datatypes d = 'e' start",
-            true,
+            "default:x@0\"ab\" datatypes:d@32\"e\" ",
             1,
         ),
-        (Wanted::Declarations, "namespace a = b", false, 1),
-        (Wanted::Class, "* - (x:a | b) | [ ] y:* {", true, 1),
-        (Wanted::Class, "a - b", true, 2),
-        (Wanted::Class, "* - ]", false, 1),
-        (Wanted::Pattern, "element a { empty }", true, 0),
-        (Wanted::Pattern, "a, (b & c)+ >> d [ e [ ] ] | f", true, 2),
+        (Wanted::Declarations, "namespace a = b", "syntax", 1),
+        (
+            Wanted::Class,
+            "* - (x:a | b) | [ ] y:* {",
+            "|*@0 - (|x:a@5|b@11)|y:*@20",
+            1,
+        ),
+        (Wanted::Class, "a - b", "a@0", 2),
+        (Wanted::Class, "* - ]", "syntax", 1),
+        (
+            Wanted::Pattern,
+            "element a { empty }",
+            "element@0 a@8(empty)",
+            0,
+        ),
+        (
+            Wanted::Pattern,
+            "a, (b & c)+ >> d [ e [ ] ] | f",
+            "group(ref:a@0 oneOrMore(interleave(ref:b@4 ref:c@8 )) )",
+            2,
+        ),
         (
             Wanted::Pattern,
             "xsd:int { min = '1' } - (token '2' | '3')*",
-            true,
+            "zeroOrMore(xsd:int@0 min@10\"1\" - (choice(token@25\"2\" \"3\" )))",
             0,
         ),
-        (Wanted::Pattern, "element { empty }", false, 3),
+        (Wanted::Pattern, "element { empty }", "syntax", 3),
         (
             Wanted::Items,
             "x [ ] start = a include 'f' { b |= text } }",
-            true,
+            "{start@6 =(ref:a@14) include@16\"f\"{b@30 |=(text) } }",
             1,
         ),
-        (Wanted::Items, "include 'f' { include 'g' }", false, 3),
+        (Wanted::Items, "include 'f' { include 'g' }", "syntax", 3),
         (
             Wanted::File,
             "namespace p = 'q' element p:a { empty }",
-            true,
+            "namespace:p@0\"q\" element@18 p:a@26(empty)",
             0,
         ),
         (
             Wanted::File,
             "[ ] a = empty x:b [ ] div { start = a }",
-            true,
+            "{a@4 =(empty) div{start@28 =(ref:a@36) } }",
             0,
         ),
-        (Wanted::File, "x:int { } - (a) , b", true, 0),
-        (Wanted::File, "[ ] a & b | c", false, 2),
-        (Wanted::File, "a = b c", false, 0),
+        (
+            Wanted::File,
+            "x:int { } - (a) , b",
+            "group(x:int@0 - (ref:a@13) ref:b@18 )",
+            0,
+        ),
+        (Wanted::File, "[ ] a & b | c", "syntax", 2),
+        (Wanted::File, "a = b c", "syntax", 0),
     ];
-    assert_eq!(rt; wrong_part(rt.alloc(), rows.as_slice()), None);
+    for (wanted, text, tree, left) in rows {
+        let is_read = is_read(rt.alloc(), wanted, text, tree, left)?;
+        assert!(rt; is_read, "{text}");
+    }
+    Ok(())
 }
 
 /// How a text ends: as a schema with a feature or without, or refused.

@@ -1,5 +1,5 @@
 // Escapes: `\x{..}` with one to six hexadecimal digits.
-ghost use Rattle.std.specs.Prelude.{◌≡◌, ◌<◌, length, chars, true, false, IfOk, IfErr, MatchOption};
+ghost use Rattle.std.specs.Prelude.{◌≡◌, ◌<◌, chars, true, false, IfOk, IfErr, MatchOption};
 ghost use Rattle.std.specs.List.{list_all};
 ghost use Rattle.token_laws.specs.Lexing.{opens_escape, begins_code, is_quote};
 ghost use Rattle.rnc_lexer.specs.Views.{IsFault};

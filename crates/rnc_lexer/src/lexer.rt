@@ -1,11 +1,11 @@
 // The lexer: tokens read from the left.
-ghost use Rattle.std.specs.Prelude.{◌≡◌, ◌≤◌, ◌<◌, ◌-◌, List, [], ◌∷◌, map, length, chars, slice_get, Some, false, IfOk, IfErr};
+ghost use Rattle.std.specs.Prelude.{◌≡◌, ◌≤◌, ◌<◌, ◌-◌, List, map, length, chars, slice_get, Some, false, IfOk, IfErr};
 ghost use Rattle.token_laws.specs.Tokens.{Placed, ◌at◌};
 ghost use Rattle.token_laws.specs.Lexing as lexing;
-ghost use Rattle.token_laws.specs.Lexing.{start_of, at_end, at_quote, apart, done, LexRefusal};
+ghost use Rattle.token_laws.specs.Lexing.{start_of, apart, done, LexRefusal};
 ghost use Rattle.rnc_lexer.specs.Views.{joined_of, token_of, placed_of, IsFault};
 ghost use Rattle.rnc_lexer.specs.Sound.{AreWithin};
-ghost use Rattle.rnc_lexer.specs.Steps.{place, is_gap, Takes, BeginsText, ReadsRest, StopsAt, Leads, LeadsToken, after_token, joined_size};
+ghost use Rattle.rnc_lexer.specs.Steps.{place, is_gap, Takes, BeginsText, ReadsRest, StopsAt, LeadsToken, after_token, joined_size};
 
 use crate::characters::{is_quote, text_of};
 use crate::faults::LexFault;

@@ -16,6 +16,3 @@ mod words;
 pub use faults::LexFault;
 pub use lexer::lex;
 pub use tokens::{Keyword, Lexed, Symbol, Token, Tokens};
-
-#[cfg(test)]
-mod tests;

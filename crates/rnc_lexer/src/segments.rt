@@ -1,5 +1,5 @@
 // Segments: literals in quotes.
-ghost use Rattle.std.specs.Prelude.{◌≡◌, ◌≤◌, ◌<◌, ◌-◌, [], Some, None, slice_get, length, chars, true, false, string_bytes, IfOk, IfErr, IfSome};
+ghost use Rattle.std.specs.Prelude.{◌≡◌, ◌<◌, ◌-◌, [], Some, None, slice_get, length, chars, true, false, string_bytes, IfOk, IfErr};
 ghost use Rattle.token_laws.specs.Lexing.{is_quote, is_line_end, closed, ReadsSegment};
 ghost use Rattle.rnc_lexer.specs.Views.{IsFault};
 ghost use Rattle.rnc_lexer.specs.Steps.{place, TakesThree, SkipsFeed, LeadsSegment, Closes, TakesInside, FailsInside, FailsSegment};

@@ -1,9 +1,7 @@
 // Tokens with their places.
 ghost use Rattle.std.specs.Prelude.{◌≡◌, ◌<◌, ◌^◌, ◌==◌, length, map};
-ghost use Rattle.token_laws.specs.Tokens.{Placed};
 ghost use Rattle.rnc_lexer.specs.Views.{token_of, placed_of, IsTokenAt, IsPlaceAt};
 ghost use Rattle.rnc_lexer.specs.Sound.{AreSound};
-ghost use Rattle.token_laws.specs.Tokens as model;
 
 use std::marker::Model;
 use text_atoms::Text;

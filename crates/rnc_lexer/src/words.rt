@@ -1,9 +1,9 @@
 // Words: the tokens that are no segment, as parts of the text.
-ghost use Rattle.std.specs.Prelude.{◌≡◌, ◌<◌, ◌≤◌, length, true, false, chars, IfOk, IfErr, IfSome, IfNone, OnOk};
+ghost use Rattle.std.specs.Prelude.{◌≡◌, ◌<◌, ◌≤◌, length, chars, IfOk, IfErr, IfSome, IfNone, OnOk};
 ghost use Rattle.token_laws.specs.Lexing.{start_of, at_word, AreShort, HasNoWord};
 ghost use Rattle.rnc_lexer.specs.declared.faults.LexFault.{LexFault};
 ghost use Rattle.rnc_lexer.specs.Views.{word_of, token_of, IsFault};
-ghost use Rattle.rnc_lexer.specs.Steps.{place, TakesWord, StopsAnywhere, Leads, after_token};
+ghost use Rattle.rnc_lexer.specs.Steps.{place, TakesWord, StopsAnywhere};
 
 use crate::faults::LexFault;
 use crate::lexer::Lexer;
