@@ -18,6 +18,3 @@ pub use classes::Owner;
 pub use laws::{least_is_least, least_of_both};
 pub use least::lesser;
 pub use namespaces::Namespaces;
-
-#[cfg(test)]
-mod tests;

@@ -1,5 +1,5 @@
 // URIs by prefixes.
-ghost use Rattle.std.specs.Prelude.{◌≡◌, [], ◌∷◌, ◌++◌, None, OnOk, option_map, is_some, if◌then◌else◌};
+ghost use Rattle.std.specs.Prelude.{◌≡◌, [], ◌∷◌, ◌++◌, OnOk, option_map, is_some, if◌then◌else◌};
 ghost use Rattle.rng_model.specs.Texts.{Text};
 ghost use Rattle.simple_form_laws.specs.Prefixes.{look_up};
 ghost use Rattle.name_resolution.specs.Bindings.{as_table};

@@ -5,7 +5,6 @@ pub mod Cycles
 pub mod Nesting
 pub mod Wholes
 pub mod Meanings
-pub mod Examples
 pub mod Looping
 pub mod Descending
 pub mod Ending

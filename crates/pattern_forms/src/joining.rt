@@ -1,11 +1,11 @@
 // How the members of a group, a choice or an interleave are joined.
-ghost use Rattle.std.specs.Prelude.{◌≡◌, ◌≢◌, ℕ, ◌<◌, [], length, map, IfOk};
+ghost use Rattle.std.specs.Prelude.{◌≡◌, ◌≢◌, ℕ, ◌<◌, [], map, IfOk};
 ghost use Rattle.simple_form_laws.specs.Meaning.{Choice, connect};
 ghost use Rattle.pattern_intern.specs.Members.{AreIn, trees_at};
 ghost use Rattle.pattern_intern.specs.Schemas.{AreRefsBelow};
 ghost use Rattle.pattern_intern.specs.Stored.{Extends, count, tree_at};
 ghost use Rattle.pattern_forms.specs.Making.{AreMade, AreWithin, all_joined, connective_of, form_at};
-ghost use Rattle.pattern_forms.specs.Outcomes.{HasForm, IsMade};
+ghost use Rattle.pattern_forms.specs.Outcomes.{IsMade};
 
 use pattern_intern::{PatternId, Pool};
 use std::alloc::AllocError;

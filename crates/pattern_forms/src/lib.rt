@@ -14,8 +14,6 @@ mod leads;
 mod loops;
 mod making;
 mod search;
-#[cfg(test)]
-mod tests;
 mod walk;
 
 pub use fault::FormsFault;

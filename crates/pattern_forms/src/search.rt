@@ -1,5 +1,5 @@
 // What can be reached in the graph.
-ghost use Rattle.std.specs.Prelude.{◌≡◌, ◌<◌, length, IfOk, OnOk, IfErr};
+ghost use Rattle.std.specs.Prelude.{◌≡◌, ◌<◌, length, IfOk, OnOk};
 ghost use Rattle.schema_graph.specs.Shown.{IsClosed};
 ghost use Rattle.pattern_forms.specs.Searching.{AreReachedMarked, Grown, IsMarked, IsSearch, Spread};
 

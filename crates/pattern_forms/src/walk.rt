@@ -1,5 +1,5 @@
 // The walk that makes the forms of all that a node leads to, and its own.
-ghost use Rattle.std.specs.Prelude.{◌≡◌, ℕ, true, false, ◌<◌, [], ◌∷◌, ◌++◌, length, IfOk, IfNone, IfSome, OnOk};
+ghost use Rattle.std.specs.Prelude.{◌≡◌, true, false, ◌<◌, [], ◌∷◌, ◌++◌, length, IfOk, IfNone, IfSome, OnOk};
 ghost use Rattle.schema_graph.specs.Shown.{HasMembers, IsClosed};
 ghost use Rattle.pattern_forms.specs.Making.{Advances, AreMade, AreMadeFrom, Grows, IsFirstUnmade, IsMaking, IsPath, Leaves};
 ghost use Rattle.pattern_forms.specs.Outcomes.{IsMade};

@@ -13,6 +13,3 @@ mod names;
 pub use fault::Fault;
 pub use first::{bad_value, first_fault};
 pub use laws::later_faults;
-
-#[cfg(test)]
-mod tests;

@@ -8,8 +8,6 @@ mod entry;
 mod parts;
 mod places;
 mod table;
-#[cfg(test)]
-mod tests;
 mod tokens;
 mod walk;
 mod whole;

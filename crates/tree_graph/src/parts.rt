@@ -1,5 +1,5 @@
 // The nodes that are made.
-ghost use Rattle.std.specs.Prelude.{◌≡◌, [], ◌∷◌, ◌++◌, ◌<◌, length, slice_set, IfOk, OnOk, OnErr};
+ghost use Rattle.std.specs.Prelude.{◌≡◌, [], ◌∷◌, ◌++◌, ◌<◌, length, slice_set, IfOk, OnOk};
 ghost use Rattle.tree_graph.specs.States.{AreNodesIn, IsBegun, IsNodeIn};
 
 use schema_graph::Node;

@@ -2,7 +2,7 @@
 ghost use Rattle.std.specs.Prelude.{◌≡◌, ◌++◌, map, OnOk};
 ghost use Rattle.grammar_laws.specs.Trees.{patterns_of, items_of};
 ghost use Rattle.schema_tree.specs.Trees.{pattern_of, item_of};
-ghost use Rattle.simple_form_laws.specs.Forms.{element_places, places_in_list, places_in_item, places_in_items};
+ghost use Rattle.simple_form_laws.specs.Forms.{element_places, places_in_list, places_in_items};
 
 use schema_tree::{Item, Pattern};
 use std::alloc::AllocError;

@@ -1,5 +1,5 @@
 // The graph of a schema.
-ghost use Rattle.std.specs.Prelude.{◌≡◌, ◌<◌, [], length, IfOk};
+ghost use Rattle.std.specs.Prelude.{◌≡◌, ◌<◌, length, IfOk};
 ghost use Rattle.grammar_laws.specs.Files.{body_pattern};
 ghost use Rattle.schema_tree.specs.Files.{full_of};
 ghost use Rattle.schema_tree.specs.Trees.{body_of};

@@ -3,7 +3,7 @@ use Rattle.std.proofs.lemmas.List.{take_all}
 use Rattle.std.proofs.lemmas.List.Elements.{All-more, All-map}
 use Rattle.schema_tree.specs.Trees.{declaration_of}
 use Rattle.simple_form_laws.specs.Faults.{declaration_place}
-use Rattle.name_resolution.proofs.tests.are_within.Goals as goal
+use Rattle.schema_tests.proofs.names.are_within.Goals as goal
 
 pub loop-declaration-preserved : goal.loop-declaration-preserved
 loop-declaration-preserved c =
