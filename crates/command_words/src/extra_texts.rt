@@ -1,5 +1,5 @@
 // The extra texts of a run.
-ghost use Rattle.std.specs.Prelude.{◌≡◌, ◌==◌, ◌↔◌, ◌<◌, ◌≤◌, IsTrue, Some, IfSome, IfNone, IfOk, OnOk, All, map, string_bytes, length, slice_get, codes};
+ghost use Rattle.std.specs.Prelude.{◌≡◌, ◌==◌, ◌↔◌, ◌<◌, ◌≤◌, IsTrue, Some, IfSome, IfNone, IfOk, All, map, string_bytes, length, slice_get};
 ghost use Rattle.std.specs.List.{list_all};
 ghost use Rattle.std.specs.Str.{chars};
 ghost use Rattle.token_laws.specs.Lexing.{is_allowed};

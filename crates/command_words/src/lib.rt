@@ -18,6 +18,3 @@ pub use extra_texts::ExtraTexts;
 pub use laws::one_form;
 pub use reading::read_words;
 pub use size::Size;
-
-#[cfg(test)]
-mod tests;

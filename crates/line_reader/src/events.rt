@@ -4,7 +4,7 @@ ghost use Rattle.rng_model.specs.Events as model;
 ghost use Rattle.rng_model.specs.Lines.{event_line};
 ghost use Rattle.line_laws.specs.EventLists.{IsEvent};
 ghost use Rattle.skeleton.specs.Views.{event_of};
-ghost use Rattle.line_reader.specs.Spellings.{event_body, attribute_body, BeginsNoLine};
+ghost use Rattle.line_reader.specs.Spellings.{event_body, BeginsNoLine};
 
 use crate::cuts::cut_at;
 use crate::names::read_name;

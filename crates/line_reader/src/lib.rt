@@ -9,6 +9,3 @@ mod reading;
 mod texts;
 
 pub use reading::{LineFault, read_skeleton};
-
-#[cfg(test)]
-mod tests;

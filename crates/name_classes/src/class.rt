@@ -1,5 +1,5 @@
 // Name classes.
-ghost use Rattle.std.specs.Prelude.{◌≡◌, false, ◌++◌, ◌∷◌, [], List, length, map, IfOk, OnOk, flat_map, replicate, option_map, ◌≤◌};
+ghost use Rattle.std.specs.Prelude.{◌≡◌, false, ◌++◌, ◌∷◌, List, length, map, IfOk, OnOk, flat_map, replicate, option_map, ◌≤◌};
 ghost use Rattle.std.specs.List.{list_any};
 ghost use Rattle.std.specs.Cmp.{partial_equiv_from_equiv};
 ghost use Rattle.rng_model.specs.Classes.{Class, in_class, is_infinite, class_cmp, any, any_except, namespace, namespace_except, one, either};

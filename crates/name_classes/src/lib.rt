@@ -10,6 +10,3 @@ pub use class::NameClass;
 pub use name::{Name, NotNcName};
 pub use part::{Part, Sample};
 pub use text_atoms::{is_name_char, is_name_start};
-
-#[cfg(test)]
-mod tests;

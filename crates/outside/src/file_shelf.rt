@@ -1,5 +1,5 @@
 // Real files as a shelf.
-ghost use Rattle.std.specs.Prelude.{None, is_some, ◌≡◌, ℕ, Option, List, Bool};
+ghost use Rattle.std.specs.Prelude.{None, is_some, ◌≡◌, Option};
 
 use crate::devices::{Failed, Shelf};
 use std::fs;

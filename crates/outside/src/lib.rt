@@ -9,8 +9,6 @@ mod memory_shelf;
 mod memory_sink;
 mod std_sink;
 mod steps;
-#[cfg(test)]
-mod tests;
 mod whole_file;
 mod whole_piece;
 

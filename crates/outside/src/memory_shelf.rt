@@ -1,5 +1,5 @@
 // A shelf in memory, whose calls fail as it is told.
-ghost use Rattle.std.specs.Prelude.{◌≡◌, ◌≤◌, ◌<◌, ℕ, Bool, List, Option, None, Some, is_some, length};
+ghost use Rattle.std.specs.Prelude.{◌≡◌, ◌≤◌, ◌<◌, Option, None, Some, is_some, length};
 ghost use Rattle.std.specs.Prelude.{OnOk, OnErr, IsTrue, is_ok, not};
 ghost use Rattle.std.specs.Io.{ReadsAtMost};
 ghost use Rattle.std.specs.Io.KnownBytes.{ReadConsumes};

@@ -1,5 +1,5 @@
 // A sink in memory, whose calls fail as it is told.
-ghost use Rattle.std.specs.Prelude.{◌≡◌, ◌≤◌, ◌<◌, ℕ, Some, [], length, IfOk};
+ghost use Rattle.std.specs.Prelude.{◌≡◌, ◌≤◌, ◌<◌, Some, [], length, IfOk};
 ghost use Rattle.std.specs.Prelude.{is_some, is_ok, not};
 ghost use Rattle.std.specs.Io.KnownBytes.{WriteAppends};
 ghost use Rattle.outside.specs.Counts.{HasCause};

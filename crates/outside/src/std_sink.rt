@@ -1,5 +1,5 @@
 // A standard stream as a sink.
-ghost use Rattle.std.specs.Prelude.{None, ◌≡◌, ℕ, Option, List};
+ghost use Rattle.std.specs.Prelude.{None, ◌≡◌};
 ghost use Rattle.outside.specs.Counts.{HasCause};
 
 use crate::devices::{Failed, Sink};

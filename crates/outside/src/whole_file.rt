@@ -1,5 +1,5 @@
 // A whole file.
-ghost use Rattle.std.specs.Prelude.{◌≡◌, ◌⊎◌, ◌+◌, ◌≤◌, vec_len, IfOk, IsErrOf, IfSome, ⊤};
+ghost use Rattle.std.specs.Prelude.{◌≡◌, ◌⊎◌, ◌+◌, ◌≤◌, vec_len, IfOk, IsErrOf, IfSome};
 ghost use Rattle.outside.specs.Counts.{Rose, RisesAtMost};
 ghost use Rattle.outside.specs.Devices.{IsMissing, AreBytesOf, IsLonger, length_of};
 

@@ -81,7 +81,8 @@ fn are_named(alloc: Global, text: &str, numbers: Numbers) -> bool {
 
 #[test]
 fn names(rt: HostRuntime) {
-    let text = "start = b, a, c b |= element x { empty } div { a |= element x { empty } b |= element x { empty } } c |= element x { empty }";
+    let text =
+        "start = b, a, c b |= element x { empty } div { a |= element x { empty } b |= element x { empty } } c |= element x { empty }";
     assert!(rt; are_named(rt.alloc(), text, (0, 2, 1, 3)));
 }
 

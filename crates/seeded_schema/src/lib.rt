@@ -1,15 +1,13 @@
 //! Schemas made for numbers: one for each, with 24 items whose contents follow from the number.
 #![tactic(auto)]
 
-ghost use Rattle.std.specs.Prelude.{◌≡◌, ◌<◌, ◌*◌, ◌++◌, ◌^◌, codes, IfOk, OnOk};
+ghost use Rattle.std.specs.Prelude.{◌≡◌, ◌<◌, ◌*◌, ◌++◌, codes, IfOk, OnOk};
 ghost use Rattle.std.specs.List.{join_by};
 ghost use Rattle.seeded_schema.specs.Made.{content, content_number, item_line, item_name, items, made, start_line};
 
 use std::alloc::{AllocError as OutOfMemory, Global};
 
 mod laws;
-#[cfg(test)]
-mod tests;
 
 pub use laws::contents_of_the_first_items;
 

@@ -9,6 +9,3 @@ mod walk;
 pub use code::Code;
 pub use document::{RefusedEvents, Skeleton, SkeletonFault};
 pub use event::{Event, Events};
-
-#[cfg(test)]
-mod tests;

@@ -6,8 +6,6 @@ mod lines;
 mod sending;
 mod states;
 mod tally;
-#[cfg(test)]
-mod tests;
 
 pub use states::write_state_line;
 pub use tally::Tally;

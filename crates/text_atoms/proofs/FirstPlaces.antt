@@ -12,7 +12,7 @@ pub none_more : {X : Type 0} (xs : List X) (P : X → Type 0) (i : ℕ) (x : X) 
 none_more {X} xs P i x below e fails before k a within at holds =
     below_more (λ (j : ℕ). (b : X) → slice_get xs j ≡ Some b → P b → ⊥) i (λ j less b. before j b less)
     (λ b there so. (
-        let one : Some b ≡ Some x = sym there ∙ read_at xs i x below e in
-        let is : b ≡ x = cc in
-        fails (subst P is so)))
+    let one : Some b ≡ Some x = sym there ∙ read_at xs i x below e in
+    let is : b ≡ x = cc in
+    fails (subst P is so)))
     k within a at holds

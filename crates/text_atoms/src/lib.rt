@@ -29,8 +29,3 @@ pub use origin::Origin;
 pub use text::Text;
 pub use text_list::TextList;
 pub use white_space::{is_space, is_white, normal};
-
-#[cfg(test)]
-mod atom_tests;
-#[cfg(test)]
-mod tests;

@@ -17,9 +17,9 @@ returns-then-limit-len-clause-too_long g c = λ _. longer _ _ _ _ _ (rest_more _
 pub loop-count-preserved : goal.loop-count-preserved
 loop-count-preserved g c =
     let items : c.extend_from_slice.new.self.items ≡ c.loop-count.bytes.items ++ take c.in-Ok.count c.read.new.buf =
-        made _ _ _ _ _ c.is_err-in-loop-count.ensures.negation c.if-is_err-2.false c.extend_from_slice.ensures.items in
+    made _ _ _ _ _ c.is_err-in-loop-count.ensures.negation c.if-is_err-2.false c.extend_from_slice.ensures.items in
     let len : vec_len c.extend_from_slice.new.self ≡ vec_len c.loop-count.bytes + length (take c.in-Ok.count c.read.new.buf) =
-        made _ _ _ _ _ c.is_err-in-loop-count.ensures.negation c.if-is_err-2.false c.extend_from_slice.ensures.len in
+    made _ _ _ _ _ c.is_err-in-loop-count.ensures.negation c.if-is_err-2.false c.extend_from_slice.ensures.len in
     record {
       current = c.read.ensures.current;
       files = c.read.ensures.same_files ∙ c.loop-count.invariant.files;

@@ -11,7 +11,7 @@ pub returns-in-Fresh : goal.returns-in-Fresh
 returns-in-Fresh c = (
   c.index-atoms-position.result.0,
   read_at c.args.atoms.now c.loop-position.position c.index-atoms-position.result c.loop-position-test.true c.index-atoms-position.is
-    ∙ ap (λ (o : Origin). Some (c.index-atoms-position.result.0, o)) c.in-Fresh.is,
+      ∙ ap (λ (o : Origin). Some (c.index-atoms-position.result.0, o)) c.in-Fresh.is,
 )
 
 pub loop-position-preserved : goal.loop-position-preserved

@@ -1,15 +1,21 @@
-use super::*;
-use crate::characters::is_nmtoken;
-use crate::white_space::{first_word, lone_word, normal_equal};
-use std::alloc::AllocError;
+// White space, kinds and characters of names, row by row.
+use std::alloc::{AllocError, Global};
+use text_atoms::{Kind, Text, is_name_char, is_name_start, is_ncname, is_space, is_white, normal};
+
+/// Whether the text has this normal form, and is the same token.
+fn has_form(alloc: Global, text: &str, form: &str) -> Result<bool, AllocError> {
+    let made = normal(alloc, text)?;
+    let copy = made.copy(alloc)?;
+    Ok(made.as_str() == form && copy == made && Kind::Token.equal(text, form))
+}
 
 #[test]
 fn normal_forms(rt: HostRuntime) -> Result<(), AllocError> {
-    let alloc = rt.alloc();
-    for (text, form) in [
+    let rows = [
         ("", ""),
         (" \t\r\n", ""),
         (" a  b ", "a b"),
+        (" a b", "a b"),
         ("a\tb", "a b"),
         ("a\rb", "a b"),
         ("a\nb", "a b"),
@@ -17,28 +23,28 @@ fn normal_forms(rt: HostRuntime) -> Result<(), AllocError> {
         ("a\u{00A0}b", "a\u{00A0}b"),
         ("\u{00A0}", "\u{00A0}"),
         ("\u{3000}\u{10FFFF} x", "\u{3000}\u{10FFFF} x"),
-    ] {
-        let made = normal(alloc, text)?;
-        assert!(rt; made.as_str() == form, "{text:?}");
-        assert!(rt; made.copy(alloc)? == made, "{text:?}");
+    ];
+    for (text, form) in rows {
+        assert!(rt; has_form(rt.alloc(), text, form)?, "{text:?}");
         assert!(rt; is_white(text) == form.is_empty(), "{text:?}");
-        assert!(rt; normal_equal(text, form), "{text:?}");
     }
     assert!(rt; is_space(' ') && !is_space('\u{00A0}') && !is_space('\u{000C}'));
-    assert!(rt; first_word(" a b") == Some(("a", " b")));
-    assert!(rt; lone_word(" a ") == Some("a") && lone_word("a b").is_none());
-    assert!(rt; !normal_equal("a b", "ab") && !normal_equal("a", "a b"));
     Ok(())
 }
 
+/// Whether the values are equal or not as told, either way round.
+fn are_so(kind: Kind, a: &str, b: &str, equal: bool) -> bool {
+    kind.equal(a, b) == equal && kind.equal(b, a) == equal
+}
+
 #[test]
-fn kinds(rt: HostRuntime) -> Result<(), AllocError> {
-    let alloc = rt.alloc();
-    for (kind, a, b, equal) in [
+fn equal_values(rt: HostRuntime) {
+    let rows = [
         (Kind::Str, "a", "a", true),
         (Kind::Str, "a ", "a", false),
         (Kind::Token, " a  b ", "a\tb", true),
         (Kind::Token, "ab", "a b", false),
+        (Kind::Token, "a", "a b", false),
         (Kind::Boolean, "1", " true ", true),
         (Kind::Boolean, "0", "false", true),
         (Kind::Boolean, "1", "false", false),
@@ -67,11 +73,15 @@ fn kinds(rt: HostRuntime) -> Result<(), AllocError> {
         (Kind::Nmtoken, "a:b", "a:b\n", true),
         (Kind::Nmtoken, "1a", "1a", true),
         (Kind::Nmtoken, "a b", "a b", false),
-    ] {
-        assert!(rt; kind.equal(a, b) == equal, "{kind:?} {a:?} {b:?}");
-        assert!(rt; kind.equal(b, a) == equal, "{kind:?} {b:?} {a:?}");
+    ];
+    for (kind, a, b, equal) in rows {
+        assert!(rt; are_so(kind, a, b, equal), "{kind:?} {a:?} {b:?}");
     }
-    for (kind, text, allowed) in [
+}
+
+#[test]
+fn allowed_texts(rt: HostRuntime) {
+    let rows = [
         (Kind::Str, "", true),
         (Kind::Token, "a b", true),
         (Kind::Boolean, "\ttrue", true),
@@ -79,22 +89,30 @@ fn kinds(rt: HostRuntime) -> Result<(), AllocError> {
         (Kind::NonNegative, "-0", true),
         (Kind::Positive, "-1", false),
         (Kind::NcName, "", false),
+        (Kind::NcName, " a ", true),
+        (Kind::NcName, "a b", false),
         (Kind::Nmtoken, ":", true),
-    ] {
+        (Kind::Nmtoken, "-a:b", true),
+        (Kind::Nmtoken, "", false),
+        (Kind::Nmtoken, "a b", false),
+    ];
+    for (kind, text, allowed) in rows {
         assert!(rt; kind.allows(text) == allowed, "{kind:?} {text:?}");
     }
+}
+
+#[test]
+fn orders(rt: HostRuntime) -> Result<(), AllocError> {
     assert!(rt; Kind::Str < Kind::Token && Kind::NcName < Kind::Nmtoken);
-    let texts = [
-        Text::from_string(String::from_str(alloc, "\u{00FF}")?),
-        Text::from_string(String::from_str(alloc, "z")?),
-    ];
-    assert!(rt; texts[1] < texts[0] && texts[0] == texts[0]);
+    let high = normal(rt.alloc(), "\u{00FF}")?;
+    let low = Text::from_string(String::from_str(rt.alloc(), "z")?);
+    assert!(rt; low < high && high == high);
     Ok(())
 }
 
 #[test]
 fn name_characters(rt: HostRuntime) {
-    for (first, last) in [
+    let ranges = [
         ('A', 'Z'),
         ('_', '_'),
         ('a', 'z'),
@@ -110,16 +128,21 @@ fn name_characters(rt: HostRuntime) {
         ('\u{F900}', '\u{FDCF}'),
         ('\u{FDF0}', '\u{FFFD}'),
         ('\u{10000}', '\u{EFFFF}'),
-    ] {
-        assert!(rt; is_name_start(first) && is_name_start(last), "{first:?}");
-        assert!(rt; is_name_char(first) && is_name_char(last), "{first:?}");
-    }
-    for c in [
+    ];
+    assert!(rt;
+        ranges
+            .iter()
+            .all(|(first, last)| begin_names(*first, *last))
+    );
+    let behind = [
         '-', '.', '0', '9', '\u{00B7}', '\u{0300}', '\u{036F}', '\u{203F}', '\u{2040}',
-    ] {
-        assert!(rt; is_name_char(c) && !is_name_start(c), "{c:?}");
-    }
-    for c in [
+    ];
+    assert!(rt;
+        behind
+            .iter()
+            .all(|c| is_name_char(*c) && !is_name_start(*c))
+    );
+    let none = [
         '@',
         '[',
         '^',
@@ -150,9 +173,12 @@ fn name_characters(rt: HostRuntime) {
         '\u{00B8}',
         '\u{203E}',
         '\u{2041}',
-    ] {
-        assert!(rt; !is_name_char(c), "{c:?}");
-    }
+    ];
+    assert!(rt; none.iter().all(|c| !is_name_char(*c)));
     assert!(rt; is_ncname("a.b-1") && !is_ncname("-a") && !is_ncname("a:b"));
-    assert!(rt; is_nmtoken("-a:b") && !is_nmtoken("") && !is_nmtoken("a b"));
+}
+
+/// Whether a name may begin with both characters, and have them.
+fn begin_names(first: char, last: char) -> bool {
+    is_name_start(first) && is_name_start(last) && is_name_char(first) && is_name_char(last)
 }

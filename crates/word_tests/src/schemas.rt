@@ -1,5 +1,5 @@
 // The texts of three schemas.
-use crate::make;
+use seeded_schema::make;
 use std::alloc::Global;
 use std::test::Fail;
 

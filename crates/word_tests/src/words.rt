@@ -1,6 +1,7 @@
 // Words with a form and without.
-use crate::read_words;
+use command_words::{CommandLine, read_words};
 use std::alloc::{AllocError, Global};
+use text_atoms::TextList;
 
 /// The words of a line, none where it is empty.
 fn words_of(alloc: Global, line: &str) -> Result<Vec<String>, AllocError> {
@@ -11,27 +12,37 @@ fn words_of(alloc: Global, line: &str) -> Result<Vec<String>, AllocError> {
     Ok(words)
 }
 
-/// What the words of a line ask for, none where they have no form.
-fn shown(alloc: Global, line: &str) -> Result<Option<String>, AllocError> {
-    let words = words_of(alloc, line)?;
-    let Some(asked) = read_words(words.as_slice()) else {
-        return Ok(None);
-    };
+/// Adds the texts, each behind a bar.
+fn add_texts(shown: &mut String, texts: &TextList) -> Result<(), AllocError> {
+    for text in texts.as_slice() {
+        shown.push('|')?;
+        shown.push_str(text.as_str())?;
+    }
+    Ok(())
+}
+
+/// What is asked for, with its texts at the end.
+fn shown(alloc: Global, asked: &CommandLine<'_>) -> Result<String, AllocError> {
+    let texts = asked.extra_texts(alloc)?;
     let mut shown = format!(in alloc;
         "{:?} {:?} {} {}",
         asked.command, asked.page, asked.limit, asked.fresh
     )?;
-    let list = asked.extra_texts(alloc)?;
-    for text in list.as_slice() {
-        shown.push('|')?;
-        shown.push_str(text.as_str())?;
+    add_texts(&mut shown, &texts)?;
+    Ok(shown)
+}
+
+/// Whether the words of a line ask for this.
+fn ask_for(alloc: Global, line: &str, wanted: &str) -> Result<bool, AllocError> {
+    let words = words_of(alloc, line)?;
+    match read_words(words.as_slice()) {
+        Some(asked) => Ok(shown(alloc, &asked)?.as_str() == wanted),
+        None => Ok(false),
     }
-    Ok(Some(shown))
 }
 
 #[test]
 fn words_with_a_form(rt: HostRuntime) -> Result<(), AllocError> {
-    let alloc = rt.alloc();
     let rows = [
         (
             "list 1 f",
@@ -63,18 +74,13 @@ fn words_with_a_form(rt: HostRuntime) -> Result<(), AllocError> {
         ),
     ];
     for (line, wanted) in rows {
-        let Some(shown) = shown(alloc, line)? else {
-            assert!(rt; false);
-            return Ok(());
-        };
-        assert_eq!(rt; shown.as_str(), wanted);
+        assert!(rt; ask_for(rt.alloc(), line, wanted)?, "{line}");
     }
     Ok(())
 }
 
 #[test]
 fn words_without_a_form(rt: HostRuntime) -> Result<(), AllocError> {
-    let alloc = rt.alloc();
     let lines = [
         "",
         "list 1",
@@ -104,52 +110,52 @@ fn words_without_a_form(rt: HostRuntime) -> Result<(), AllocError> {
         "represent f d",
     ];
     for line in lines {
-        let words = words_of(alloc, line)?;
-        assert!(rt; read_words(words.as_slice()).is_none());
+        let words = words_of(rt.alloc(), line)?;
+        assert!(rt; read_words(words.as_slice()).is_none(), "{line}");
     }
     Ok(())
 }
 
-/// Whether a text is taken, by the word `text=` and the text.
-fn is_taken(alloc: Global, text: &str) -> Result<bool, AllocError> {
+/// Whether a text so many times over, and one more character, is taken by the word `text=` and the text.
+fn is_taken(alloc: Global, text: &str, times: usize, more: &str) -> Result<bool, AllocError> {
+    let repeated = text.repeat(alloc, times)?;
+    let word = format!(in alloc; "text={repeated}{more}")?;
     let mut words = words_of(alloc, "universe f")?;
-    let mut word = String::from_str(alloc, "text=")?;
-    word.push_str(text)?;
     words.push(word)?;
     Ok(read_words(words.as_slice()).is_some())
 }
 
 #[test]
 fn texts(rt: HostRuntime) -> Result<(), AllocError> {
-    let alloc = rt.alloc();
-    let longest = "é".repeat(alloc, 2048)?;
     let rows = [
-        (" \t\r\n", true),
-        ("\u{D7FF}\u{E000}\u{FFFD}\u{10FFFF}", true),
-        (longest.as_str(), true),
-        ("\u{B}", false),
-        ("\u{FFFE}", false),
+        (" \t\r\n", 1, "", true),
+        ("\u{D7FF}\u{E000}\u{FFFD}\u{10FFFF}", 1, "", true),
+        ("é", 2048, "", true),
+        ("é", 2048, "u", false),
+        ("\u{B}", 1, "", false),
+        ("\u{FFFE}", 1, "", false),
     ];
-    for (text, wanted) in rows {
-        assert_eq!(rt; is_taken(alloc, text)?, wanted);
+    for (text, times, more, taken) in rows {
+        assert!(rt;
+            is_taken(rt.alloc(), text, times, more)? == taken,
+            "{text:?} {more}"
+        );
     }
-    let mut longer = longest;
-    longer.push('u')?;
-    assert!(rt; !is_taken(alloc, longer.as_str())?);
     Ok(())
+}
+
+/// Whether the file and the one text are asked for.
+fn has_parts(asked: &CommandLine<'_>, file: &str, text: &str) -> bool {
+    asked.command.file() == Some(file)
+        && !asked.texts.is_empty()
+        && asked.texts.len() == 1
+        && asked.texts.get(0) == text
 }
 
 #[test]
 fn parts(rt: HostRuntime) -> Result<(), AllocError> {
     let words = words_of(rt.alloc(), "universe f text=u")?;
-    let Some(asked) = read_words(words.as_slice()) else {
-        assert!(rt; false);
-        return Ok(());
-    };
-    assert!(rt; asked.command.file() == Some("f"));
-    assert!(rt; !asked.texts.is_empty());
-    if asked.texts.len() == 1 {
-        assert_eq!(rt; asked.texts.get(0), "u");
-    }
+    let asked = read_words(words.as_slice());
+    assert!(rt; asked.is_some_and(|asked| has_parts(&asked, "f", "u")));
     Ok(())
 }

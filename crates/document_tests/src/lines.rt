@@ -1,7 +1,6 @@
 // Bytes and what they are read as, row by row.
-use crate::{LineFault, read_skeleton};
+use line_reader::{LineFault, read_skeleton};
 use std::alloc::Global;
-use std::test::Fail;
 
 /// Whether each text is that of a skeleton of this size.
 fn are_read(alloc: Global, rows: &[(&str, usize)]) -> bool {
@@ -26,7 +25,7 @@ fn are_refused(alloc: Global, rows: &[(&str, LineFault)]) -> bool {
 }
 
 #[test]
-fn texts(rt: HostRuntime) -> Result<(), Fail> {
+fn texts(rt: HostRuntime) {
     let rows = [
         ("(a\n>\n)\n\n", 1),
         ("(a\nAb t\nAc \n>\n-u\\n\n)\n\n", 4),
@@ -37,11 +36,10 @@ fn texts(rt: HostRuntime) -> Result<(), Fail> {
         ("(a\n>\n-t\n(b\n>\n)\n- u \n)\n\n", 4),
     ];
     assert!(rt; are_read(rt.alloc(), &rows));
-    Ok(())
 }
 
 #[test]
-fn refusals(rt: HostRuntime) -> Result<(), Fail> {
+fn refusals(rt: HostRuntime) {
     let rows = [
         ("", LineFault::Unfinished),
         ("a\n", LineFault::BadLine { line: 1 }),
@@ -72,16 +70,17 @@ fn refusals(rt: HostRuntime) -> Result<(), Fail> {
             LineFault::BadLine { line: 3 }
         )
     );
-    Ok(())
 }
 
 #[test]
-fn cut_texts(rt: HostRuntime) -> Result<(), Fail> {
+fn cut_texts(rt: HostRuntime) {
     let text = "(addressBook\n>\n(card\n>\n(name\n>\n)\n(email\n>\n)\n)\n)\n\n";
     let bytes = text.as_bytes();
     assert!(rt; bytes.len() == 49 && are_read(rt.alloc(), &[(text, 4)]));
     for len in 0..bytes.len() {
-        assert!(rt; is_refused(rt.alloc(), &bytes[..len], LineFault::Unfinished));
+        assert!(rt;
+            is_refused(rt.alloc(), &bytes[..len], LineFault::Unfinished),
+            "at {len}"
+        );
     }
-    Ok(())
 }
