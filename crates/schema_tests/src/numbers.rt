@@ -119,6 +119,18 @@ fn joined(alloc: Global, first: Pattern, rest: Pattern) -> Result<Pattern, Alloc
     Ok(Pattern::Group(members))
 }
 
+/// The group of an empty element and the rest.
+fn preceded(alloc: Global, name: &str, at: usize, rest: Pattern) -> Result<Pattern, AllocError>
+    requires place { at ≤ 20 }
+    requires rest { IsSoundPattern 20 (pattern_of rest) }
+    requires none_in_rest { references (pattern_of rest) ≡ [] }
+    ensures sound { IfOk result (λ p. IsSoundPattern 20 (pattern_of p)) }
+    ensures references { IfOk result (λ p. references (pattern_of p) ≡ []) }
+{
+    let first = element(alloc, name, at)?;
+    joined(alloc, first, rest)
+}
+
 /// A file of 20 bytes.
 fn file(alloc: Global) -> Result<FileList, AllocError>
     ensures some { IfOk result (λ fs. fs ≢ []) }
@@ -170,9 +182,9 @@ fn numbers_at(alloc: Global, places: Numbers) -> Result<Option<Numbers>, AllocEr
         return Ok(None);
     }
     let last = element(alloc, "d", d)?;
-    let two = joined(alloc, element(alloc, "c", c)?, last)?;
-    let three = joined(alloc, element(alloc, "b", b)?, two)?;
-    let four = joined(alloc, element(alloc, "a", a)?, three)?;
+    let two = preceded(alloc, "c", c, last)?;
+    let three = preceded(alloc, "b", b, two)?;
+    let four = preceded(alloc, "a", a, three)?;
     numbers_in(alloc, four)
 }
 
