@@ -1,5 +1,5 @@
--- References of trees, no two at one place.
-use Rattle.std.proofs.Common.{◌≡◌, ℕ, List, [], length, refl, subst, sym, arith}
+-- References of trees that texts have, no two at one place.
+use Rattle.std.proofs.Common.{◌≡◌, ℕ, List, length, subst, sym}
 use Rattle.token_laws.specs.Tokens.{Placed}
 use Rattle.token_laws.specs.Lexing.{Tokens}
 use Rattle.grammar_laws.specs.Trees.{File}
@@ -7,10 +7,6 @@ use Rattle.grammar_laws.specs.Grammar.{Derives}
 use Rattle.grammar_laws.specs.Files.{Full, of_one}
 use Rattle.grammar_laws.specs.Faults.{Parses}
 use Rattle.tree_laws.specs.WholeBodies.{AreDistinct, IsWhole, references_of_body}
-
--- a list without numbers
-pub none_are_distinct : (xs : List ℕ) → xs ≡ [] → AreDistinct xs
-none_are_distinct xs e = subst AreDistinct (sym e) (λ a m n. absurd (let h = m.1 in omega (arith, h)))
 
 abbrev pub TreesAreWhole : Type 0
 TreesAreWhole = (bytes : List ℕ) (ts : List Placed) (f : File) → Tokens bytes ts → Derives ts f → IsWhole (length bytes) f.body

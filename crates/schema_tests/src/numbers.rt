@@ -1,18 +1,13 @@
 // Numbers of elements and names of definitions, seen by the schema that a tree is simplified to.
-ghost use Rattle.std.specs.Prelude.{◌≡◌, ◌≢◌, ◌≤◌, [], IfOk};
-ghost use Rattle.schema_tree.specs.Files.{last_place};
-ghost use Rattle.schema_tree.specs.Sound.{IsSoundPattern};
-ghost use Rattle.schema_tree.specs.Trees.{body_of, pattern_of};
-ghost use Rattle.tree_laws.specs.WholeBodies.{AreDistinct, references, references_of_body};
+ghost use Rattle.schema_tree.specs.Trees.{body_of};
+ghost use Rattle.tree_laws.specs.WholeBodies.{AreDistinct, references_of_body};
 
 use pattern_intern::{Node, Schema};
 use rnc_lexer::lex;
 use rnc_parser::parse;
-use schema_tree::{Body, Class, FileList, Full, Pattern, refused_feature};
+use schema_tree::{Full, refused_feature};
 use simplify::simplify;
-use sqlite_items::{Boxed, Items};
-use std::alloc::{AllocError, Global};
-use text_atoms::{Text, is_ncname};
+use std::alloc::Global;
 use tree_laws::trees_are_whole;
 
 /// The numbers of four elements.
@@ -86,73 +81,16 @@ fn names(rt: HostRuntime) {
     assert!(rt; are_named(rt.alloc(), text, (0, 2, 1, 3)));
 }
 
-/// An empty element of the name at the place; `empty` where the name is none.
-fn element(alloc: Global, name: &str, at: usize) -> Result<Pattern, AllocError>
-    requires { at ≤ 20 }
-    ensures sound { IfOk result (λ p. IsSoundPattern 20 (pattern_of p)) }
-    ensures references { IfOk result (λ p. references (pattern_of p) ≡ []) }
-{
-    if !is_ncname(name) {
-        return Ok(Pattern::Empty);
-    }
-    let content = Boxed::new(alloc, Pattern::Empty)?;
-    let local = Text::from_string(String::from_str(alloc, name)?);
-    Ok(Pattern::Element {
-        class: Class::Plain { local, at },
-        content,
-        at,
-    })
-}
-
-/// The group of the element and the rest.
-fn joined(alloc: Global, first: Pattern, rest: Pattern) -> Result<Pattern, AllocError>
-    requires first { IsSoundPattern 20 (pattern_of first) }
-    requires rest { IsSoundPattern 20 (pattern_of rest) }
-    requires none_in_first { references (pattern_of first) ≡ [] }
-    requires none_in_rest { references (pattern_of rest) ≡ [] }
-    ensures sound { IfOk result (λ p. IsSoundPattern 20 (pattern_of p)) }
-    ensures references { IfOk result (λ p. references (pattern_of p) ≡ []) }
-{
-    let mut members = Items::new(alloc);
-    members.push(first)?;
-    members.push(rest)?;
-    Ok(Pattern::Group(members))
-}
-
-/// The group of an empty element and the rest.
-fn preceded(alloc: Global, name: &str, at: usize, rest: Pattern) -> Result<Pattern, AllocError>
-    requires place { at ≤ 20 }
-    requires rest { IsSoundPattern 20 (pattern_of rest) }
-    requires none_in_rest { references (pattern_of rest) ≡ [] }
-    ensures sound { IfOk result (λ p. IsSoundPattern 20 (pattern_of p)) }
-    ensures references { IfOk result (λ p. references (pattern_of p) ≡ []) }
-{
-    let first = element(alloc, name, at)?;
-    joined(alloc, first, rest)
-}
-
-/// A file of 20 bytes.
-fn file(alloc: Global) -> Result<FileList, AllocError>
-    ensures some { IfOk result (λ fs. fs ≢ []) }
-    ensures end { IfOk result (λ fs. last_place fs ≡ 20) }
-{
-    let mut files = FileList::new(alloc);
-    let name = Text::from_string(String::new(alloc));
-    let inherited = Text::from_string(String::new(alloc));
-    files.push(name, 20, inherited, Items::new(alloc))?;
-    Ok(files)
-}
-
-/// The numbers of the four elements of nested groups.
+/// What `a`, `b`, `c` and `d` refer to, where the start is `a, b, c, d`.
 fn elements_of(schema: &Schema) -> Option<Numbers> {
     let pool = schema.pool();
-    let Node::Group(a, others) = pool.node(schema.start()) else {
+    let Node::Group(others, d) = pool.node(schema.start()) else {
         return None;
     };
-    let Node::Group(b, last) = pool.node(others) else {
+    let Node::Group(first, c) = pool.node(others) else {
         return None;
     };
-    let Node::Group(c, d) = pool.node(last) else {
+    let Node::Group(a, b) = pool.node(first) else {
         return None;
     };
     match (pool.node(a), pool.node(b), pool.node(c), pool.node(d)) {
@@ -161,44 +99,30 @@ fn elements_of(schema: &Schema) -> Option<Numbers> {
     }
 }
 
-/// The numbers of the elements in a tree with this pattern.
-#[tactic(auto, using(crate::proofs::Trees::none_are_distinct))]
-fn numbers_in(alloc: Global, pattern: Pattern) -> Result<Option<Numbers>, AllocError>
-    requires sound { IsSoundPattern 20 (pattern_of pattern) }
-    requires references { references (pattern_of pattern) ≡ [] }
-{
-    let files = file(alloc)?;
-    let full = Full::of_files(files, Body::Pattern(pattern));
-    match form_of(alloc, &full) {
-        Some(schema) => Ok(elements_of(&schema)),
-        None => Ok(None),
+/// Whether the elements of the text have these numbers.
+fn are_numbered(alloc: Global, text: &str, numbers: Numbers) -> bool {
+    match form_of_text(alloc, text) {
+        Some(schema) => elements_of(&schema) == Some(numbers),
+        None => false,
     }
-}
-
-/// The numbers of four elements at these places, in the order of the tree.
-fn numbers_at(alloc: Global, places: Numbers) -> Result<Option<Numbers>, AllocError> {
-    let (a, b, c, d) = places;
-    if a > 20 || b > 20 || c > 20 || d > 20 {
-        return Ok(None);
-    }
-    let last = element(alloc, "d", d)?;
-    let two = preceded(alloc, "c", c, last)?;
-    let three = preceded(alloc, "b", b, two)?;
-    let four = preceded(alloc, "a", a, three)?;
-    numbers_in(alloc, four)
 }
 
 #[test]
-fn tokens(rt: HostRuntime) -> Result<(), AllocError> {
-    let rows = [
-        ((5, 2, 9, 2), (2, 0, 3, 1)),
-        ((1, 2, 3, 4), (0, 1, 2, 3)),
-        ((9, 8, 7, 6), (3, 2, 1, 0)),
-        ((7, 7, 7, 7), (0, 1, 2, 3)),
-    ];
-    for (places, numbers) in &rows {
-        let found = numbers_at(rt.alloc(), *places)?;
-        assert!(rt; found == Some(*numbers), "{places:?}");
+fn tokens(rt: HostRuntime) {
+    for (text, numbers) in [
+        (
+            "start = a, b, c, d b = element x { empty } d = element x { empty } a = element x { empty } c = element x { empty }",
+            (2, 0, 3, 1),
+        ),
+        (
+            "start = a, b, c, d a = element x { empty } b = element x { empty } c = element x { empty } d = element x { empty }",
+            (0, 1, 2, 3),
+        ),
+        (
+            "d = element x { empty } c = element x { empty } b = element x { empty } a = element x { empty } start = a, b, c, d",
+            (3, 2, 1, 0),
+        ),
+    ] {
+        assert!(rt; are_numbered(rt.alloc(), text, numbers), "{text}");
     }
-    Ok(())
 }
