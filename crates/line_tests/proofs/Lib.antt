@@ -1,2 +1,1 @@
-pub mod Schemas
 pub mod Shared

@@ -10,28 +10,24 @@ use event_lines::{
     DocumentLines, Measure, are_in_range, measure, read_skeleton, write_name_line, write_skeleton,
     write_text_line,
 };
-use name_classes::{Name, NameClass};
+use name_classes::Name;
 use name_universe::Universe;
 use outside::{Calls, MemSink};
-use pattern_intern::{Definitions, Pool, Schema};
 use skeleton::Code;
-use std::alloc::Global;
+use std::alloc::{AllocError, Global};
 use std::test::Fail;
+use test_schemas::{class, one_element};
 use text_atoms::{Atoms, Literals, Text, TextList};
 
-fn text(alloc: Global, characters: &str) -> Result<Text, Fail> {
+fn text(alloc: Global, characters: &str) -> Result<Text, AllocError> {
     Ok(Text::from_string(String::from_str(alloc, characters)?))
 }
 
-fn name(alloc: Global, ns: &str, local: &str) -> Result<Name, Fail> {
-    Ok(Name::new(text(alloc, ns)?, text(alloc, local)?)?)
-}
-
-/// A sink that takes so many bytes at a time, and of whose calls one fails.
-fn sink(alloc: Global, failing: u64, most: usize) -> Result<MemSink, Fail> {
+/// A sink with room for so many bytes that takes so many at a time, and of whose calls one fails.
+fn sink(alloc: Global, failing: u64, most: usize, room: usize) -> Result<MemSink, AllocError> {
     let mut calls = Calls::new(alloc);
     calls.push(failing)?;
-    Ok(MemSink::new(alloc, 40_000, calls, most.max(1))?)
+    MemSink::new(alloc, room, calls, most.max(1))
 }
 
 /// Whether the document with this text was written, and whether these bytes were taken.
@@ -42,7 +38,7 @@ fn written(
     most: usize,
     bytes: &[u8],
 ) -> Result<(bool, bool), Fail> {
-    let mut sink = sink(alloc, failing, most)?;
+    let mut sink = sink(alloc, failing, most, 40_000)?;
     let done = match read_skeleton(alloc, text.as_bytes()) {
         Ok(skeleton) => write_skeleton(&skeleton, &mut sink).is_ok(),
         Err(_) => false,
@@ -90,20 +86,40 @@ fn failing_writes(rt: HostRuntime) -> Result<(), Fail> {
     Ok(())
 }
 
+/// Whether the line of the name is written.
+fn puts_name(alloc: Global, ns: &str, local: &str, sink: &mut MemSink) -> Result<bool, Fail> {
+    let ns = text(alloc, ns)?;
+    match text(alloc, local) {
+        Ok(local) => Ok(write_name_line(b'E', &Name::new(ns, local)?, sink).is_ok()),
+        Err(fault) => {
+            drop(ns);
+            Err(Fail::from(fault))
+        }
+    }
+}
+
+/// Whether the line of the text is written.
+fn puts_text(alloc: Global, characters: &str, sink: &mut MemSink) -> Result<bool, Fail> {
+    let text = text(alloc, characters)?;
+    Ok(write_text_line(b'T', &text, sink).is_ok())
+}
+
+/// Whether a name and a text are written one behind the other.
+fn puts_both(alloc: Global, sink: &mut MemSink) -> Result<bool, Fail> {
+    Ok(puts_name(alloc, "u", "a", sink)? && puts_text(alloc, "a b", sink)?)
+}
+
 #[test]
 fn lines(rt: HostRuntime) -> Result<(), Fail> {
-    let alloc = rt.alloc();
-    let mut sink = sink(alloc, 2, 1000)?;
-    assert!(rt; write_name_line(b'E', &name(alloc, "u", "a")?, &mut sink).is_ok());
-    assert!(rt; write_text_line(b'T', &text(alloc, "a b")?, &mut sink).is_ok());
-    let taken = sink.taken();
-    assert!(rt; taken == b"E{u}a\nTa b\n".as_slice());
+    let mut sink = sink(rt.alloc(), 2, 1000, 40_000)?;
+    let done = puts_both(rt.alloc(), &mut sink)?;
+    assert!(rt; done && sink.taken() == b"E{u}a\nTa b\n".as_slice());
     Ok(())
 }
 
 /// Whether a line of so many bytes is written by one call of the sink.
 fn is_one_piece(alloc: Global, len: usize) -> Result<bool, Fail> {
-    let mut sink = sink(alloc, 1, 40_000)?;
+    let mut sink = sink(alloc, 1, 40_000, 40_000)?;
     let text = Text::from_string("x".repeat(alloc, len.saturating_sub(2))?);
     Ok(write_text_line(b'T', &text, &mut sink).is_ok() && sink.taken().len() == len)
 }
@@ -117,57 +133,21 @@ fn long_lines(rt: HostRuntime) -> Result<(), Fail> {
 }
 
 /// The names of a schema whose one element is `a`.
-#[tactic(auto, using(crate::proofs::Schemas::one_form))]
 fn universe(alloc: Global) -> Result<Universe, Fail> {
-    let pool = Pool::new(alloc)?;
-    let content = pool.empty();
-    let mut elements = Definitions::new(alloc);
-    let class = NameClass::one(alloc, name(alloc, "", "a")?)?;
-    elements.push(class, content)?;
-    let schema = Schema::new(pool, content, elements);
-    Ok(Universe::of(alloc, &schema, 1)?)
+    let class = class(alloc, "a")?;
+    let Some(schema) = one_element(alloc, class)? else {
+        return Err(Fail::new("no schema"));
+    };
+    let universe = Universe::of(alloc, &schema, 1);
+    drop(schema);
+    Ok(universe?)
 }
 
-/// The measure of codes over these names and the text `t`, where they are written as the bytes though the write of this number, counted
-/// from 0, fails.
-fn coded(
-    alloc: Global,
-    codes: &[Code],
-    failing: u64,
-    bytes: &[u8],
-) -> Result<Option<Measure>, Fail> {
-    let universe = universe(alloc)?;
-    let atoms = Atoms::of(alloc, &Literals::new(alloc), &TextList::new(alloc))?;
-    let mut lines = DocumentLines::of(alloc, &universe, &atoms)?;
-    let mut sink = sink(alloc, failing, 1000)?;
-    if !are_in_range(codes, &universe, &atoms) {
-        return Ok(None);
-    }
-    let done = lines.write(codes, 0, &mut sink).is_ok();
-    let measure = measure(codes, &universe, &atoms);
-    Ok(Some(measure).filter(|_| done && sink.taken() == bytes))
-}
-
-#[test]
-fn codes(rt: HostRuntime) -> Result<(), Fail> {
-    let alloc = rt.alloc();
-    let bytes = b"(a\n>\n)\n\n".as_slice();
-    let one = [Code::Opening(0), Code::Body, Code::Closing];
-    let measure = Measure { bytes: 8, sum: 280 };
-    assert!(rt; coded(alloc, &one, 4, bytes)? == Some(measure));
-    let all = [
-        Code::Opening(1),
-        Code::Attr(0, 0),
-        Code::Body,
-        Code::Chars(0),
-        Code::Closing,
-    ];
-    let bytes = b"(x\nA{urn:x}x t\n>\n-t\n)\n\n".as_slice();
-    // A line is one piece, and so is the empty line.
-    assert!(rt; coded(alloc, &all, 6, bytes)?.is_some());
-    assert!(rt; coded(alloc, &all, 5, bytes)?.is_none());
-    assert!(rt; coded(alloc, &[Code::Chars(1)], 2, bytes)?.is_none());
-    Ok(())
+/// The texts of a schema without literals, and one of so many letters.
+fn atoms(alloc: Global, letters: usize) -> Result<Atoms, Fail> {
+    let mut texts = TextList::new(alloc);
+    texts.push(Text::from_string("y".repeat(alloc, letters)?))?;
+    Ok(Atoms::of(alloc, &Literals::new(alloc), &texts)?)
 }
 
 /// The line of a code over these names, the text `t` and a long text whose line is given.
@@ -217,10 +197,12 @@ fn add_lines(
 fn code_of(letter: u8) -> Code {
     match letter {
         b'(' => Code::Opening(0),
+        b'[' => Code::Opening(1),
         b'A' => Code::Attr(0, 0),
         b'>' => Code::Body,
         b'-' => Code::Chars(0),
         b'+' => Code::Chars(1),
+        b'?' => Code::Chars(2),
         _ => Code::Closing,
     }
 }
@@ -244,6 +226,113 @@ fn codes_of(
     Ok(codes)
 }
 
+/// Whether codes are written as the bytes, whose measure is theirs.
+fn is_coded(
+    codes: &[Code],
+    bytes: &[u8],
+    measured: Measure,
+    universe: &Universe,
+    atoms: &Atoms,
+    lines: &mut DocumentLines,
+    sink: &mut MemSink,
+) -> bool
+    requires spelled { AreSpellings (lists_of universe.now atoms.now) lines.old.spellings }
+    requires none { lines.old.codes ≡ [] }
+{
+    if !are_in_range(codes, universe, atoms) {
+        return false;
+    }
+    let done = lines.write(codes, 0, sink).is_ok();
+    done && measure(codes, universe, atoms) == measured && sink.taken() == bytes
+}
+
+/// The same where the write of this number, counted from 0, fails.
+fn is_coded_to(
+    alloc: Global,
+    codes: &[Code],
+    failing: u64,
+    bytes: &str,
+    sum: u32,
+    universe: &Universe,
+    atoms: &Atoms,
+    lines: &mut DocumentLines,
+) -> Result<bool, Fail>
+    requires spelled { AreSpellings (lists_of universe.now atoms.now) lines.old.spellings }
+    requires none { lines.old.codes ≡ [] }
+{
+    let mut sink = sink(alloc, failing, 1000, 40_000)?;
+    let bytes = bytes.as_bytes();
+    let measured = Measure {
+        bytes: bytes.len() as u64,
+        sum,
+    };
+    Ok(is_coded(codes, bytes, measured, universe, atoms, lines, &mut sink))
+}
+
+/// The same, over lines of which none is held.
+fn is_coded_first(
+    alloc: Global,
+    codes: &[Code],
+    failing: u64,
+    bytes: &str,
+    sum: u32,
+    universe: &Universe,
+    atoms: &Atoms,
+) -> Result<bool, Fail> {
+    let mut lines = DocumentLines::of(alloc, universe, atoms)?;
+    is_coded_to(
+        alloc, codes, failing, bytes, sum, universe, atoms, &mut lines,
+    )
+}
+
+/// Letters of codes, the number of the write that fails, counted from 0, the bytes, their sum, and whether they are written so.
+type CodesRow<'a> = (&'a str, u64, &'a str, u32, bool);
+
+/// Whether each row is so.
+fn are_coded(
+    alloc: Global,
+    rows: &[CodesRow],
+    universe: &Universe,
+    atoms: &Atoms,
+) -> Result<bool, Fail> {
+    for (letters, failing, bytes, sum, written) in rows {
+        let codes = codes_of(alloc, *letters, 1, 0)?;
+        let codes = codes.as_slice();
+        if is_coded_first(alloc, codes, *failing, *bytes, *sum, universe, atoms)? != *written {
+            return Ok(false);
+        }
+    }
+    Ok(true)
+}
+
+/// The same over these names and the texts `t` and `y`.
+fn are_coded_over(alloc: Global, rows: &[CodesRow], universe: &Universe) -> Result<bool, Fail> {
+    let atoms = atoms(alloc, 1)?;
+    are_coded(alloc, rows, universe, &atoms)
+}
+
+/// The same over the names of one element.
+fn are_coded_all(alloc: Global, rows: &[CodesRow]) -> Result<bool, Fail> {
+    let universe = universe(alloc)?;
+    are_coded_over(alloc, rows, &universe)
+}
+
+#[test]
+fn codes(rt: HostRuntime) -> Result<(), Fail> {
+    let lines = "(x\nA{urn:x}x t\n>\n-t\n)\n\n";
+    // A line is one piece, and so is the empty line.
+    let rows = [
+        ("(>)", 4, "(a\n>\n)\n\n", 280, true),
+        ("[A>-)", 6, lines, 1584, true),
+        ("[A>-)", 5, lines, 1584, false),
+        ("-", 2, "-t\n\n", 181, true),
+        ("?", 2, "-t\n\n", 181, false),
+    ];
+    let holds = are_coded_all(rt.alloc(), &rows)?;
+    assert!(rt; holds);
+    Ok(())
+}
+
 /// How many codes the two share at their front, up to so many.
 fn common_len(last: &[Code], codes: &[Code], most: usize) -> usize
     ensures { take result last.now ≡ take result codes.now }
@@ -261,13 +350,6 @@ fn shared_len(last: &[Code], codes: &[Code], most: usize) -> usize
     ensures { (held : List CodeValue) → BeginsWith (map value_of last.now) held → BeginsWith (map value_of codes.now) (take result held) }
 {
     common_len(last, codes, most)
-}
-
-/// The atoms of a schema without literals, and of one text more.
-fn atoms(alloc: Global, extra: Text) -> Result<Atoms, Fail> {
-    let mut texts = TextList::new(alloc);
-    texts.push(extra)?;
-    Ok(Atoms::of(alloc, &Literals::new(alloc), &texts)?)
 }
 
 /// Whether a document is taken line by line, behind what was taken before, where the piece of this number, counted from 0, fails.
@@ -334,22 +416,73 @@ fn are_taken(
     Ok(true)
 }
 
-/// Whether the documents are taken so by a sink of whose calls the one of this number fails.
-fn in_turn(
+/// The same by a sink of whose calls the one of this number fails.
+fn are_taken_by_sink(
     alloc: Global,
     documents: &[(&str, usize, usize)],
     most: usize,
     failing: u64,
+    universe: &Universe,
+    atoms: &Atoms,
+    lines: &mut DocumentLines,
+) -> Result<bool, Fail>
+    requires spelled { AreSpellings (lists_of universe.now atoms.now) lines.old.spellings }
+    requires none { lines.old.codes ≡ [] }
+{
+    let mut sink = sink(alloc, failing, 40_000, 400_000)?;
+    are_taken(
+        alloc, documents, most, failing, universe, atoms, lines, &mut sink,
+    )
+}
+
+/// The same over lines of which none is held.
+fn are_taken_first(
+    alloc: Global,
+    documents: &[(&str, usize, usize)],
+    most: usize,
+    failing: u64,
+    universe: &Universe,
+    atoms: &Atoms,
+) -> Result<bool, Fail> {
+    let mut lines = DocumentLines::of(alloc, universe, atoms)?;
+    are_taken_by_sink(alloc, documents, most, failing, universe, atoms, &mut lines)
+}
+
+/// The same for each number of a piece that fails, and of codes given as unchanged.
+fn are_taken_each(
+    alloc: Global,
+    documents: &[(&str, usize, usize)],
+    runs: &[(u64, usize)],
+    universe: &Universe,
+    atoms: &Atoms,
+) -> Result<bool, Fail> {
+    for (failing, most) in runs {
+        if !are_taken_first(alloc, documents, *most, *failing, universe, atoms)? {
+            return Ok(false);
+        }
+    }
+    Ok(true)
+}
+
+/// The same over these names, the text `t` and a long one.
+fn are_taken_over(
+    alloc: Global,
+    documents: &[(&str, usize, usize)],
+    runs: &[(u64, usize)],
+    universe: &Universe,
+) -> Result<bool, Fail> {
+    let atoms = atoms(alloc, 1000)?;
+    are_taken_each(alloc, documents, runs, universe, &atoms)
+}
+
+/// The same over the names of one element.
+fn in_turn(
+    alloc: Global,
+    documents: &[(&str, usize, usize)],
+    runs: &[(u64, usize)],
 ) -> Result<bool, Fail> {
     let universe = universe(alloc)?;
-    let atoms = atoms(alloc, Text::from_string("y".repeat(alloc, 1000)?))?;
-    let mut lines = DocumentLines::of(alloc, &universe, &atoms)?;
-    let mut calls = Calls::new(alloc);
-    calls.push(failing)?;
-    let mut sink = MemSink::new(alloc, 400_000, calls, 40_000)?;
-    are_taken(
-        alloc, documents, most, failing, &universe, &atoms, &mut lines, &mut sink,
-    )
+    are_taken_over(alloc, documents, runs, &universe)
 }
 
 #[test]
@@ -379,7 +512,7 @@ fn documents_in_turn(rt: HostRuntime) -> Result<(), Fail> {
     ];
     // No piece fails; then one of the first documents, of the long ones, and of the last. Of the codes that a document shares with the
     // last one none are given as unchanged, or two, or all.
-    for (failing, most) in [
+    let runs = [
         (10_000, 0),
         (10_000, 2),
         (10_000, 1000),
@@ -397,9 +530,9 @@ fn documents_in_turn(rt: HostRuntime) -> Result<(), Fail> {
         (604, 1000),
         (900, 1000),
         (955, 1000),
-    ] {
-        assert!(rt; in_turn(rt.alloc(), &documents, most, failing)?);
-    }
+    ];
+    let taken = in_turn(rt.alloc(), &documents, &runs)?;
+    assert!(rt; taken);
     Ok(())
 }
 
@@ -416,15 +549,15 @@ fn many_closings(rt: HostRuntime) -> Result<(), Fail> {
         ("+A---", 32, 15),
         ("+A---", 32, 16),
     ];
-    for (failing, most) in [
+    let runs = [
         (10_000, 0),
         (10_000, 1000),
         (120, 1000),
         (347, 1000),
         (1240, 1000),
         (1580, 1000),
-    ] {
-        assert!(rt; in_turn(rt.alloc(), &documents, most, failing)?);
-    }
+    ];
+    let taken = in_turn(rt.alloc(), &documents, &runs)?;
+    assert!(rt; taken);
     Ok(())
 }
