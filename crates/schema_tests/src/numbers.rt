@@ -27,7 +27,6 @@ fn form_of(alloc: Global, full: &Full) -> Option<Schema>
 }
 
 /// The simple form of the text's tree.
-#[tactic(auto, using(crate::proofs::Trees::are_distinct))]
 fn form_of_text(alloc: Global, text: &str) -> Option<Schema> {
     match lex(alloc, text.as_bytes()) {
         Ok(tokens) => match parse(alloc, &tokens) {
